@@ -3,12 +3,20 @@ use Rattle.wq_worker.proofs.Common.{◌≡◌, ℕ, List, [], ◌∷◌, ◌++�
 use Rattle.wq_worker.proofs.Common.{begun_by, begun, ended, IsClosed, IsLegal, IsComplete, HasRunOut, in_order, Ran, Item, Barrier, Stop}
 use Rattle.wq_worker.proofs.Common.{Nothing, Owing, WorkerState, Moves, EndsBy, OwesBy, owes, RunsBy, RowBy, none, more, Shuts, drains, Resumes}
 use Rattle.wq_worker.proofs.Common.{stays_closed, reopens}
+use Rattle.wq_worker.proofs.Common.{◌≤◌, length, take, Option, Some, None, Layout, Learnt, items_among, pairs_of, ValueWorkerState, owner_in}
 use mathlib.Core.List.{IsPrefix}
+use Rattle.std.specs.Prelude.{nat_lt}
+use Rattle.std.proofs.lemmas.List.Elements.{filter-append}
+use Rattle.wq_words.proofs.Legal.{legal_front}
+use Rattle.wq_worker.specs.ValueState.{ran_pairs}
+use Rattle.wq_worker.proofs.Logged.{few_begun}
 use Rattle.wq_words.specs.History.{accepted_by, ended_by}
 use Rattle.wq_words.proofs.Closed.{closed_shuts}
 use Rattle.wq_words.proofs.Prefixes.{prefix_self, prefix_on, prefix_whole}
 use Rattle.wq_worker.specs.Step.{ends}
-use Rattle.wq_worker.specs.Rows.{GoesOn, IsNotStop, RunsSomeBy, full, broken, ServesBy, Closes, was_closed, closes, was_shut}
+use Rattle.wq_worker.specs.declared.drained.Drained.{Drained}
+use Rattle.wq_worker.specs.declared.drained.Drained.TheVariants.{Empty, TooLong}
+use Rattle.wq_worker.specs.Rows.{GoesOn, IsExecution, IsNotStop, RunsSomeBy, full, broken, ServesBy, DrainsBy, Closes, was_closed, closes, was_shut}
 
 pub accepted_more : (v w : List Event) → IsPrefix v w → IsPrefix (accepted v) (accepted w)
 accepted_more v w p = (accepted p.0, sym (filter_map-append accepted_by v p.0) ∙ ap accepted p.1)
@@ -19,8 +27,43 @@ begun_more v w p = (begun p.0, sym (filter_map-append begun_by v p.0) ∙ ap beg
 pub ended_more : (v w : List Event) → IsPrefix v w → IsPrefix (ended v) (ended w)
 ended_more v w p = (ended p.0, sym (filter_map-append ended_by v p.0) ∙ ap ended p.1)
 
+items_more : (layout : Layout) (xs ys : List ℕ) → IsPrefix xs ys → IsPrefix (items_among layout xs) (items_among layout ys)
+items_more layout xs ys p =
+    (items_among layout p.0, sym (filter-append (λ k. nat_lt k layout.items) xs p.0) ∙ ap (items_among layout) p.1)
+
+-- a log of the items that began goes on
+pub log_more : (layout later : Layout) (v w : List Event) (l m : List ℕ) → l ≡ items_among layout (begun v) → m ≡ items_among later (begun w)
+    → later ≡ layout → IsPrefix v w → IsPrefix l m
+log_more layout later v w l m was is size p =
+    let q = items_more layout (begun v) (begun w) (begun_more v w p) in
+    let now : m ≡ items_among layout (begun w) = is ∙ ap (λ (z : Layout). items_among z (begun w)) size in
+    (q.0, ap (λ (z : List ℕ). z ++ q.0) was ∙ (q.1 ∙ sym now))
+
+pub same_more : {W X : Type 0} (log : W → List X) (u w : W) → w ≡ u → IsPrefix (log u) (log w)
+same_more {X = X} log u w same = subst (λ (x : _). IsPrefix (log u) (log x)) (sym same) (prefix_self (log u))
+
+module _ {V : Type 0} where
+  pairs_more : (xs ys : List ℕ) (us vs : List (Option V)) → length xs ≤ length us
+      → IsPrefix (pairs_of xs (take (length xs) us)) (pairs_of (xs ++ ys) (take (length (xs ++ ys)) (us ++ vs)))
+  pairs_more [] ys us vs few = (pairs_of ys (take (length ys) (us ++ vs)), refl)
+  pairs_more (x ∷ xs) ys [] vs few = absurd (omega (arith, few))
+  pairs_more (x ∷ xs) ys (Some v ∷ us) vs few =
+      let p = pairs_more xs ys us vs (omega (arith, few)) in (p.0, ap (λ (z : List (ℕ × V)). (x, v) ∷ z) p.1)
+  pairs_more (x ∷ xs) ys (None ∷ us) vs few = pairs_more xs ys us vs (omega (arith, few))
+
+  -- a log of the pairs that began goes on
+  pub pairs_log : {W : Type 0} (a b : ValueWorkerState V W) (l m : List (ℕ × V)) → l ≡ ran_pairs a → m ≡ ran_pairs b
+      → IsPrefix a.worker.seen b.worker.seen → IsLegal b.worker.layout b.worker.seen → Learnt (owner_in a) (owner_in b) → IsPrefix l m
+  pairs_log a b l m was is p legal learnt =
+      let h = a.worker.seen in let bs = begun_more h b.worker.seen p in
+      let few : length (begun h) ≤ length a.brought = few_begun b.worker.layout h a.brought
+      (legal_front b.worker.layout h p.0 (subst (IsLegal b.worker.layout) (sym p.1) legal)) learnt.was_whole in
+      let q = pairs_more (begun h) bs.0 a.brought learnt.more.0 few in
+      (q.0, ap (λ (z : List (ℕ × V)). z ++ q.0) was ∙
+      (q.1 ∙ ((λ i. pairs_of (bs.1 i) (take (length (bs.1 i)) (learnt.more.1 i))) ∙ sym is)))
+
 -- where a queue has run out, all that was accepted has ended, in that order
-pub out_ended : (h : List Event) (layout : _) → IsLegal layout h → HasRunOut h → IsPrefix (accepted h) (ended h)
+pub out_ended : (h : List Event) (layout : Layout) → IsLegal layout h → HasRunOut h → IsPrefix (accepted h) (ended h)
 out_ended h layout legal out =
     let o = in_order layout h legal in
     let p = prefix_on (ended h) (begun h) (accepted h) o.ended_first o.begun_first in
@@ -81,6 +124,14 @@ module _ {W : Type 0} (may : W → ℕ → List ℕ → W → Type 0) (gives : W
 
   pub serves_seen : (a c : WorkerState W) → ServesBy may gives a c → IsPrefix a.seen c.seen
   serves_seen a c s = prefix_on a.seen s.last.seen c.seen (row_seen IsNotStop s.steps a s.last s.row) (runs_by_seen Stop s.last c s.stops)
+
+  pub drains_seen : (limit : ℕ) (r : Drained) (a c : WorkerState W) → DrainsBy may gives limit r a c → IsPrefix a.seen c.seen
+  drains_seen limit Empty a c d =
+      prefix_on a.seen d.last.seen c.seen
+      (prefix_on a.seen d.began.seen d.last.seen (shuts_seen a d.began d.shuts) (row_seen IsExecution d.steps d.began d.last d.row))
+      (resumes_seen d.last c d.resumes)
+  drains_seen limit (TooLong left) a c d =
+      prefix_on a.seen d.began.seen c.seen (shuts_seen a d.began d.shuts) (row_seen IsExecution limit d.began c d.row)
 
   -- by a drain that empties the queue all that was accepted before it has ended
   pub drained_ended : (P : Ran → Type 0) (n : ℕ) (a m b c : WorkerState W) → Shuts a m → RowBy may gives P n m b → IsLegal b.layout b.seen → HasRunOut b.seen

@@ -175,6 +175,7 @@ impl<V: Drop, W: ValueWork<V>> ValueWorker<V, W> {
         ensures some { result ≡ Nothing → ⊥ }
         ensures settles { DealsOut W.given W.may W.takes self.old self.new }
         ensures learnt { Learnt (owner_in self.old) (owner_in self.new) }
+        ensures logged { W.log self.new.worker.work ≡ ran_pairs self.new }
         ensures owed { (k : ℕ) → result ≡ Owing k → IsOwedPair self.new }
     {
         let is_done = queue_pairs::<V, W>(
@@ -241,9 +242,12 @@ impl<V: Drop, W: ValueWork<V>> ValueWorker<V, W> {
         ensures closed { IsClosed self.old.worker.seen → IsClosed self.new.worker.seen }
         ensures shut { IsShut self.old.worker.seen → IsShut self.new.worker.seen }
         ensures given { IsPrefix (W.given self.old.worker.work) (W.given self.new.worker.work) }
+        ensures log { IsPrefix (W.log self.old.worker.work) (W.log self.new.worker.work) }
         ensures same { IsSameWorker self.old.worker self.new.worker }
         ensures legal { IsLegal self.new.worker.layout self.new.worker.seen }
     {
+        // For the proof: what the log was.
+        self.logged();
         if let Some(number) = self.pair.running() {
             return self.finish(number);
         }
@@ -295,11 +299,15 @@ impl<V: Drop, W: ValueWork<V>> ValueWorker<V, W> {
         ensures unclosed { ¬ IsClosed self.old.worker.seen → ¬ IsClosed self.new.worker.seen }
         ensures closed { IsClosed self.old.worker.seen → IsClosed self.new.worker.seen }
         ensures shut { IsShut self.old.worker.seen → IsShut self.new.worker.seen }
+        ensures log { IsPrefix (W.log self.old.worker.work) (W.log self.new.worker.work) }
         ensures same { IsSameWorker self.old.worker self.new.worker }
         ensures legal { IsLegal self.new.worker.layout self.new.worker.seen }
     {
         self.legal();
-        run_some::<ValueWorker<V, W>>(self, limit)
+        self.logged();
+        let ended = run_some::<ValueWorker<V, W>>(self, limit);
+        self.logged();
+        ended
     }
 
     /// As `Worker::close`.
@@ -384,11 +392,15 @@ impl<V: Drop, W: ValueWork<V>> ValueWorker<V, W> {
         ensures ended { result ≡ Empty → IsPrefix (accepted self.old.worker.seen) (ended self.new.worker.seen) }
         ensures complete { result ≡ Empty → IsClosed self.old.worker.seen → IsComplete self.new.worker.seen }
         ensures unclosed { ¬ IsClosed self.old.worker.seen → ¬ IsClosed self.new.worker.seen }
+        ensures log { IsPrefix (W.log self.old.worker.work) (W.log self.new.worker.work) }
         ensures same { IsSameWorker self.old.worker self.new.worker }
         ensures legal { IsLegal self.new.worker.layout self.new.worker.seen }
     {
         self.legal();
-        drain::<ValueWorker<V, W>>(self, limit)
+        self.logged();
+        let drained = drain::<ValueWorker<V, W>>(self, limit);
+        self.logged();
+        drained
     }
 
     /// As `Worker::serve`, with the pairs of each step dealt out as by `run_one`.
@@ -401,11 +413,14 @@ impl<V: Drop, W: ValueWork<V>> ValueWorker<V, W> {
         ensures open { ¬ IsShut self.new.worker.seen }
         ensures unclosed { ¬ IsClosed self.new.worker.seen }
         ensures idle { ¬ IsRunning self.new.worker.seen }
+        ensures log { IsPrefix (W.log self.old.worker.work) (W.log self.new.worker.work) }
         ensures same { IsSameWorker self.old.worker self.new.worker }
         ensures legal { IsLegal self.new.worker.layout self.new.worker.seen }
     {
         self.legal();
-        serve::<R, ValueWorker<V, W>>(rt, self, parker)
+        self.logged();
+        serve::<R, ValueWorker<V, W>>(rt, self, parker);
+        self.logged();
     }
 
     // Takes a worker apart whose queue has run to the end.

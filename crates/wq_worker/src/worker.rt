@@ -155,6 +155,7 @@ impl<W: Work> Worker<W> {
         requires { running self.old.seen ≡ Some number }
         ensures runs { Runs W.may result self.old self.new }
         ensures some { result ≡ Nothing → ⊥ }
+        ensures logged { W.log self.new.work ≡ items_among self.new.layout (begun self.new.seen) }
         ensures owed { (k : ℕ) → result ≡ Owing k → IsContended self.old.number (slice_index self.new.unqueued 0) self.old.tries self.new.seen }
     {
         let at = queue_rest(&mut self.pair, self.follow.as_slice(), self.at, self.tries);
@@ -211,9 +212,12 @@ impl<W: Work> Worker<W> {
         ensures unclosed { ¬ IsClosed self.old.seen → ¬ IsClosed self.new.seen }
         ensures closed { IsClosed self.old.seen → IsClosed self.new.seen }
         ensures shut { IsShut self.old.seen → IsShut self.new.seen }
+        ensures log { IsPrefix (W.log self.old.work) (W.log self.new.work) }
         ensures same { IsSameWorker self.old self.new }
         ensures legal { IsLegal self.new.layout self.new.seen }
     {
+        // For the proof: what the log was.
+        self.logged();
         if let Some(number) = self.pair.running() {
             return self.finish(number);
         }
@@ -268,10 +272,14 @@ impl<W: Work> Worker<W> {
         ensures unclosed { ¬ IsClosed self.old.seen → ¬ IsClosed self.new.seen }
         ensures closed { IsClosed self.old.seen → IsClosed self.new.seen }
         ensures shut { IsShut self.old.seen → IsShut self.new.seen }
+        ensures log { IsPrefix (W.log self.old.work) (W.log self.new.work) }
         ensures same { IsSameWorker self.old self.new }
         ensures legal { IsLegal self.new.layout self.new.seen }
     {
-        run_some::<Worker<W>>(self, limit)
+        self.logged();
+        let ended = run_some::<Worker<W>>(self, limit);
+        self.logged();
+        ended
     }
 
     /// Closes the queue, also one that drains, takes all that stands on the list, and answers how many that is.
@@ -351,10 +359,14 @@ impl<W: Work> Worker<W> {
         ensures ended { result ≡ Empty → IsPrefix (accepted self.old.seen) (ended self.new.seen) }
         ensures complete { result ≡ Empty → IsClosed self.old.seen → IsComplete self.new.seen }
         ensures unclosed { ¬ IsClosed self.old.seen → ¬ IsClosed self.new.seen }
+        ensures log { IsPrefix (W.log self.old.work) (W.log self.new.work) }
         ensures same { IsSameWorker self.old self.new }
         ensures legal { IsLegal self.new.layout self.new.seen }
     {
-        drain::<Worker<W>>(self, limit)
+        self.logged();
+        let drained = drain::<Worker<W>>(self, limit);
+        self.logged();
+        drained
     }
 
     /// Executes until the stop item ran. It parks where nothing waits, so who queues something unparks it, and goes on at once
@@ -366,10 +378,13 @@ impl<W: Work> Worker<W> {
         ensures open { ¬ IsShut self.new.seen }
         ensures unclosed { ¬ IsClosed self.new.seen }
         ensures idle { ¬ IsRunning self.new.seen }
+        ensures log { IsPrefix (W.log self.old.work) (W.log self.new.work) }
         ensures same { IsSameWorker self.old self.new }
         ensures legal { IsLegal self.new.layout self.new.seen }
     {
-        serve::<R, Worker<W>>(rt, self, parker)
+        self.logged();
+        serve::<R, Worker<W>>(rt, self, parker);
+        self.logged();
     }
 
     // Takes a worker apart whose queue has run to the end.

@@ -43,7 +43,8 @@ returns-then-left-gt0 g c =
       outcome = leaves_unfinished (MayLeave W.may W.takes) (GivesBack W.takes) c.args.limit r.result c.args.self.worker m.new.station.worker
           r.new.station.worker m.ensures.closes e.runs e.same e.legal m.ensures.closed (omega (arith, c.if-left-gt0.true));
       deals = along;
-      done = λ is. let none = e.done (closes_out c.args.self.worker m.new.station.worker m.ensures.closes is) in absurd (omega (arith, none, c.if-left-gt0.true));
+      done = λ is.
+          let none = e.done (closes_out c.args.self.worker m.new.station.worker m.ensures.closes is) in absurd (omega (arith, none, c.if-left-gt0.true));
       learnt = along_learnt W.given W.may W.takes c.args.self r.new.station c.legal.ensures.matches along;
       given = along_given W.given W.may W.takes c.args.self r.new.station along;
     }

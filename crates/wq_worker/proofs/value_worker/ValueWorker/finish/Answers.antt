@@ -105,3 +105,9 @@ returns-clause-learnt g c =
     subst (λ (z : ValueWorkerState g.row.V.Denot g.row.W.Denot). Learnt (owner_in z) (owner_of p)) c.self.view_is
     (learnt_on (owner_of i.pair) (owner_of q.new.pair) (owner_of p)
     (settled_keeps w.log w.given w.takes i.tries _ _ _ _ _ _ _ c.self.invariant q.ensures.settles).learnt c.end_running.ensures.kept.learnt)
+
+pub returns-then-not-is_done-clause-logged : goal.returns-then-not-is_done-clause-logged
+returns-then-not-is_done-clause-logged g c = (invariant_of-self g c).logged
+
+pub returns-clause-logged : goal.returns-clause-logged
+returns-clause-logged g c = (invariant_of-self-2 g c).logged

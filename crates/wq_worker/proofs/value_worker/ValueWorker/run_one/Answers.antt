@@ -1,5 +1,6 @@
 use Rattle.wq_worker.proofs.Common.{rules, ◌≡◌, None, running, runs_none, learnt_on, Nothing, GivesBack, MayLeave, owner_in}
 use Rattle.wq_worker.proofs.Returned.{run_on}
+use Rattle.wq_worker.proofs.Going.{pairs_log, same_more, runs_by_seen}
 use Rattle.wq_worker.proofs.Rows.{runs_by_same, runs_by_legal, runs_by_open, runs_by_unclosed, runs_by_closed, runs_by_shut}
 use Rattle.wq_worker.proofs.Step.{runs_fresh}
 use Rattle.wq_worker.proofs.ValueStep.{settles_by, settles_fresh}
@@ -147,3 +148,21 @@ pub returns-in-Some-clause-given : goal.returns-in-Some-clause-given
 returns-in-Some-clause-given g c =
     let w = g.W.ValueWork in let a = c.args.self.now in let b = c.finish.new.self in
     dealt_by_given w.given w.may w.takes c.finish.result a b c.finish.ensures.runs (returns-in-Some-clause-settles g c)
+
+pub returns-clause-log : goal.returns-clause-log
+returns-clause-log g c =
+    let w = g.W.ValueWork in let a = c.args.self.now in let b = c.finish-2.new.self in
+    pairs_log a b (w.log a.worker.work) (w.log b.worker.work) c.logged.ensures.log c.finish-2.ensures.logged
+    (runs_by_seen (MayLeave w.may w.takes) (GivesBack w.takes) c.finish-2.result a.worker b.worker (returns-clause-runs g c))
+    (returns-clause-legal g c) (returns-clause-learnt g c)
+
+pub returns-in_default-start-clause-log : goal.returns-in_default-start-clause-log
+returns-in_default-start-clause-log g c =
+    same_more g.W.ValueWork.log c.args.self.now.worker.work c.start.new.self.worker.work c.in_default-start.ensures.outcome.1
+
+pub returns-in-Some-clause-log : goal.returns-in-Some-clause-log
+returns-in-Some-clause-log g c =
+    let w = g.W.ValueWork in let a = c.args.self.now in let b = c.finish.new.self in
+    pairs_log a b (w.log a.worker.work) (w.log b.worker.work) c.logged.ensures.log c.finish.ensures.logged
+    (runs_by_seen (MayLeave w.may w.takes) (GivesBack w.takes) c.finish.result a.worker b.worker c.finish.ensures.runs)
+    (returns-in-Some-clause-legal g c) c.finish.ensures.learnt

@@ -1,4 +1,6 @@
+use Rattle.wq_worker.proofs.Common.{GivesBack, MayLeave}
 use Rattle.wq_worker.proofs.Deals.{along_learnt, along_given}
+use Rattle.wq_worker.proofs.Going.{pairs_log, serves_seen}
 use Rattle.wq_worker.proofs.value_worker.ValueWorker.serve.Goals as goal
 
 pub returns-clause-learnt : goal.returns-clause-learnt
@@ -8,3 +10,9 @@ returns-clause-learnt g c =
 
 pub returns-clause-given : goal.returns-clause-given
 returns-clause-given g c = let w = g.W.ValueWork in along_given w.given w.may w.takes c.args.self.now c.serve.new.station c.serve.ensures.deals
+
+pub returns-clause-log : goal.returns-clause-log
+returns-clause-log g c =
+    let w = g.W.ValueWork in let a = c.args.self.now in let b = c.serve.new.station in let e = c.serve.ensures in
+    pairs_log a b (w.log a.worker.work) (w.log b.worker.work) c.logged.ensures.log c.logged-2.ensures.log
+    (serves_seen (MayLeave w.may w.takes) (GivesBack w.takes) a.worker b.worker e.serves) e.legal (returns-clause-learnt g c)

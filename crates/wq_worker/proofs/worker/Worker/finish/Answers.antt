@@ -73,3 +73,9 @@ returns-clause-runs g c =
     subst (λ (z : WorkerState g.row.W.Denot). Runs g.W.Work.may c.of.result z b) c.self.view_is
     (runs_kind g.W.Work.may stays k c.of.result c.layout.result a b
     (c.layout.ensures.layout ∙ (over.layout_is ∙ advance_layout _ _ _ _ _ c.queue_rest-at.ensures.queued)) c.of.ensures e)
+
+pub returns-then-at-len-clause-logged : goal.returns-then-at-len-clause-logged
+returns-then-at-len-clause-logged g c = (invariant_of-self g c).logged
+
+pub returns-clause-logged : goal.returns-clause-logged
+returns-clause-logged g c = (invariant_of-self-2 g c).logged

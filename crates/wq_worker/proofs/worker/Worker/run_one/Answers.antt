@@ -1,4 +1,5 @@
 use Rattle.wq_worker.proofs.Common.{rules, ◌≡◌, None, running, Nothing, stays, runs_none}
+use Rattle.wq_worker.proofs.Going.{log_more, same_more, runs_by_seen}
 use Rattle.wq_worker.proofs.Rows.{worker_on, moves_same, runs_by_same, runs_by_legal, runs_by_open, runs_by_unclosed, runs_by_closed, runs_by_shut}
 use Rattle.wq_worker.proofs.Step.{runs_fresh, after_stays}
 use Rattle.wq_worker.proofs.worker.Worker.run_one.Goals as goal
@@ -86,3 +87,18 @@ returns-in-Some-clause-closed g c =
 pub returns-in-Some-clause-shut : goal.returns-in-Some-clause-shut
 returns-in-Some-clause-shut g c =
     runs_by_shut g.W.Work.may stays c.finish.result c.args.self.now c.finish.new.self c.finish.ensures.runs
+
+pub returns-clause-log : goal.returns-clause-log
+returns-clause-log g c =
+    let a = c.args.self.now in let b = c.finish-2.new.self in
+    log_more a.layout b.layout a.seen b.seen (g.W.Work.log a.work) (g.W.Work.log b.work) c.logged.ensures.log c.finish-2.ensures.logged
+    (returns-clause-same g c).layout_is (runs_by_seen g.W.Work.may stays c.finish-2.result a b (returns-clause-runs g c))
+
+pub returns-in_default-start-clause-log : goal.returns-in_default-start-clause-log
+returns-in_default-start-clause-log g c = same_more g.W.Work.log c.args.self.now.work c.start.new.self.work c.in_default-start.ensures.1
+
+pub returns-in-Some-clause-log : goal.returns-in-Some-clause-log
+returns-in-Some-clause-log g c =
+    let a = c.args.self.now in let b = c.finish.new.self in
+    log_more a.layout b.layout a.seen b.seen (g.W.Work.log a.work) (g.W.Work.log b.work) c.logged.ensures.log c.finish.ensures.logged
+    (returns-in-Some-clause-same g c).layout_is (runs_by_seen g.W.Work.may stays c.finish.result a b c.finish.ensures.runs)

@@ -1,9 +1,16 @@
 use Rattle.wq_worker.proofs.Common.{stays}
+use Rattle.wq_worker.proofs.Going.{log_more, some_seen}
 use Rattle.wq_worker.proofs.Rows.{some_closed, some_shut}
 use Rattle.wq_worker.proofs.worker.Worker.run_some.Goals as goal
 
 pub returns-clause-closed : goal.returns-clause-closed
-returns-clause-closed g c = some_closed g.W.Work.may stays c.args.limit c.run_some.result c.args.self.now c.run_some.new.station c.run_some.ensures.runs
+returns-clause-closed g c = some_closed g.W.Work.may stays c.args.limit c.run_some-ended.result c.args.self.now c.run_some-ended.new.station c.run_some-ended.ensures.runs
 
 pub returns-clause-shut : goal.returns-clause-shut
-returns-clause-shut g c = some_shut g.W.Work.may stays c.args.limit c.run_some.result c.args.self.now c.run_some.new.station c.run_some.ensures.runs
+returns-clause-shut g c = some_shut g.W.Work.may stays c.args.limit c.run_some-ended.result c.args.self.now c.run_some-ended.new.station c.run_some-ended.ensures.runs
+
+pub returns-clause-log : goal.returns-clause-log
+returns-clause-log g c =
+    let w = g.W.Work in let a = c.args.self.now in let b = c.run_some-ended.new.station in let e = c.run_some-ended.ensures in
+    log_more a.layout b.layout a.seen b.seen (w.log a.work) (w.log b.work) c.logged.ensures.log c.logged-2.ensures.log e.same.layout_is
+    (some_seen w.may stays c.args.limit c.run_some-ended.result a b e.runs)
