@@ -73,6 +73,8 @@ pub trait Station {
         ensures none { result ≡ Nothing → HasNoneLeft (state self.new).seen }
         ensures open { ¬ IsShut (state self.old).seen → ¬ IsShut (state self.new).seen }
         ensures unclosed { ¬ IsClosed (state self.old).seen → ¬ IsClosed (state self.new).seen }
+        ensures closed { IsClosed (state self.old).seen → IsClosed (state self.new).seen }
+        ensures shut { IsShut (state self.old).seen → IsShut (state self.new).seen }
         ensures same { IsSameWorker (state self.old) (state self.new) }
         ensures legal { IsLegal (state self.new).layout (state self.new).seen };
 
