@@ -58,9 +58,11 @@ module _ {V : Type 0} where
       let h = a.worker.seen in let bs = begun_more h b.worker.seen p in
       let few : length (begun h) ≤ length a.brought = few_begun b.worker.layout h a.brought
       (legal_front b.worker.layout h p.0 (subst (IsLegal b.worker.layout) (sym p.1) legal)) learnt.was_whole in
-      let q = pairs_more (begun h) bs.0 a.brought learnt.more.0 few in
-      (q.0, ap (λ (z : List (ℕ × V)). z ++ q.0) was ∙
-      (q.1 ∙ ((λ i. pairs_of (bs.1 i) (take (length (bs.1 i)) (learnt.more.1 i))) ∙ sym is)))
+      let q = pairs_more (begun h) bs.0 a.brought learnt.more.0 few in (
+        q.0,
+        ap (λ (z : List (ℕ × V)). z ++ q.0) was ∙
+            (q.1 ∙ ((λ i. pairs_of (bs.1 i) (take (length (bs.1 i)) (learnt.more.1 i))) ∙ sym is)),
+      )
 
 -- where a queue has run out, all that was accepted has ended, in that order
 pub out_ended : (h : List Event) (layout : Layout) → IsLegal layout h → HasRunOut h → IsPrefix (accepted h) (ended h)

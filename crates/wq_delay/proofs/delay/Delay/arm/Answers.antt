@@ -37,14 +37,14 @@ returns-clause-on c = let i = c.self.inside in
 pub returns-clause-others : goal.returns-clause-others
 returns-clause-others c = let i = c.self.inside in
     λ j apart. placed_others j (record { due = c.in-Some.due; arming = i.next; item = c.args.item }) i.table.entries c.put.new.self.entries
-        c.put.ensures.put apart
+    c.put.ensures.put apart
     ∙ ap (λ (z : DelayState). on_table j z.table.entries) c.self.view_is
 
 pub returns-then-delay-eq0-clause-accepted : goal.returns-then-delay-eq0-clause-accepted
 returns-then-delay-eq0-clause-accepted c = let a = c.self.inside.sender in let b = c.queue_tries.new.self in let k = c.args.item in
     λ is_first wakes is. subst
-        (λ (z : DelayState). accepted (own z.sender.number b.seen) ≡ accepted (own z.sender.number z.sender.seen) ++ k ∷ [])
-        c.self.view_is
-        (queued_accepted k c.args.tries c.queue_tries.result a b c.queue_tries.ensures.answer
-        ∙ ap (λ (ks : List ℕ). accepted (own a.number a.seen) ++ ks)
-            (queued_armed k c.queue_tries.result is_first wakes (sym c.armed_of.ensures ∙ is)))
+    (λ (z : DelayState). accepted (own z.sender.number b.seen) ≡ accepted (own z.sender.number z.sender.seen) ++ k ∷ [])
+    c.self.view_is
+    (queued_accepted k c.args.tries c.queue_tries.result a b c.queue_tries.ensures.answer
+    ∙ ap (λ (ks : List ℕ). accepted (own a.number a.seen) ++ ks)
+    (queued_armed k c.queue_tries.result is_first wakes (sym c.armed_of.ensures ∙ is)))

@@ -13,12 +13,12 @@ invariant_of-self c =
 pub returns-clause-moved : goal.returns-clause-moved
 returns-clause-moved c = let i = c.self.inside in
     λ is late. placed_on (record { due = c.in-Some.due; arming = i.next; item = c.args.item }) (without c.args.item i.table.entries)
-        c.replace.new.self.entries c.replace.ensures.placed
+    c.replace.new.self.entries c.replace.ensures.placed
 
 pub returns-clause-others : goal.returns-clause-others
 returns-clause-others c = let i = c.self.inside in let k = c.args.item in
     λ j apart. placed_others j (record { due = c.in-Some.due; arming = i.next; item = k }) (without k i.table.entries) c.replace.new.self.entries
-        c.replace.ensures.placed apart
+    c.replace.ensures.placed apart
     ∙ (without_others j k i.table.entries (without k i.table.entries) refl apart ∙ ap (λ (z : DelayState). on_table j z.table.entries) c.self.view_is)
 
 pub returns-then-delay-eq0-clause-others : goal.returns-then-delay-eq0-clause-others
