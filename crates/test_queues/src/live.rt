@@ -2,6 +2,7 @@
 mod calls;
 mod contended;
 mod holding;
+mod pairs;
 pub(crate) mod reading;
 mod spins;
 mod stopped;
