@@ -2,7 +2,6 @@
 ghost use Rattle.std.specs.Prelude.{◌≡◌, ◌<◌, ◌≤◌, ◌++◌, []};
 ghost use Rattle.wq_live.specs.History.{accepted};
 ghost use Rattle.wq_live.specs.Seen.{own};
-ghost use Rattle.wq_live.specs.Numbers.{stop_number};
 ghost use Rattle.wq_live.specs.Known.{IsSame};
 ghost use Rattle.wq_live.specs.Laws.{queued_number};
 

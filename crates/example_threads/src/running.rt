@@ -67,7 +67,8 @@ fn queue_all<R: Threads + Wait + Sync>(
     requires items { (each * 3 ≤ senders.first.layout.items) × (each * 3 ≤ senders.second.layout.items) × (each * 3 ≤ senders.third.layout.items) }
     requires new { (senders.first.seen ≡ []) × (senders.second.seen ≡ []) × (senders.third.seen ≡ []) }
     ensures first { IsSame senders.first result.0.0.sender × (accepted (own senders.first.number result.0.0.sender.seen) ≡ result.0.0.queued.items) }
-    ensures second { IsSame senders.second result.0.1.sender × (accepted (own senders.second.number result.0.1.sender.seen) ≡ result.0.1.queued.items) }
+    ensures second { IsSame senders.second result.0.1.sender
+        × (accepted (own senders.second.number result.0.1.sender.seen) ≡ result.0.1.queued.items) }
     ensures third { IsSame senders.third result.1.sender × (accepted (own senders.third.number result.1.sender.seen) ≡ result.1.queued.items) }
 {
     let Senders {
@@ -123,7 +124,10 @@ fn queue_and_execute<R: Threads + Wait + Sync>(
         rt,
         move ||
             requires { owner.seen ≡ [] }
-            ensures { IsSame owner result × IsComplete result.seen × (begun result.seen ≡ accepted result.seen) × (ended result.seen ≡ begun result.seen)
+            ensures { IsSame owner result
+                × IsComplete result.seen
+                × (begun result.seen ≡ accepted result.seen)
+                × (ended result.seen ≡ begun result.seen)
                 × (accepted (own owner.number result.seen) ≡ []) }
         { execute_all(rt, owner, &parker) },
         move ||

@@ -11,7 +11,7 @@ use Rattle.wq_words.specs.Legal.{IsLegal}
 use Rattle.wq_words.specs.declared.answer.Posted.{Posted}
 use Rattle.wq_words.specs.declared.answer.Posted.TheVariants as posted
 use Rattle.wq_live.specs.Known.{Known, Sees}
-use Rattle.wq_live.specs.Answers.{IsPushed, HasMetDrain}
+use Rattle.wq_live.specs.Answers.{IsPushed, IsTurnedBack, HasMetDrain}
 use Rattle.wq_words.specs.declared.answer.Armed.{Armed}
 use Rattle.wq_words.specs.declared.answer.Armed.TheVariants as armed
 use Rattle.wq_words.specs.declared.answer.Modified.{Modified}
@@ -71,7 +71,7 @@ Arms k delay tries armed.Contended old new =
     (delay ≡ 0) × KeepsTable (Hold old.sender.number k ∷ Back old.sender.number k why.Contended ∷ []) tries old new
 Arms k delay tries armed.Draining old new =
     (delay ≡ 0) × KeepsTable (Hold old.sender.number k ∷ Back old.sender.number k why.Draining ∷ []) 0 old new
-    × HasMetDrain (old.sender.seen ++ Hold old.sender.number k ∷ []) new.sender.seen
+    × IsTurnedBack k old.sender new.sender
 Arms k delay tries armed.TooFar old new = new ≡ old
 Arms k delay tries armed.Memory old new =
     (0 < delay) × KeepsTable (Hold old.sender.number k ∷ Back old.sender.number k why.Cancelled ∷ []) 0 old new

@@ -141,7 +141,7 @@ impl Delay {
         ensures accepted { (first wakes : Bool) → result ≡ armed.Queued first wakes
             → accepted (own self.old.sender.number self.new.sender.seen) ≡ accepted (own self.old.sender.number self.old.sender.seen) ++ item ∷ [] }
         ensures on { result ≡ armed.OnTable → on_table item self.new.table.entries ≡ true }
-        ensures others { (k : ℕ) → k ≢ item → on_table k self.new.table.entries ≡ on_table k self.old.table.entries }
+        ensures other_items { (k : ℕ) → k ≢ item → on_table k self.new.table.entries ≡ on_table k self.old.table.entries }
     {
         let Some(due) = tick_after(self.table.tick(), self.next, delay) else {
             return Armed::TooFar;
@@ -165,7 +165,7 @@ impl Delay {
         ensures looked { self.new.looked ≡ self.old.looked }
         ensures was { result ≡ on_table item self.old.table.entries }
         ensures off { on_table item self.new.table.entries ≡ false }
-        ensures others { (k : ℕ) → k ≢ item → on_table k self.new.table.entries ≡ on_table k self.old.table.entries }
+        ensures other_items { (k : ℕ) → k ≢ item → on_table k self.new.table.entries ≡ on_table k self.old.table.entries }
     {
         if !self.table.take(item) {
             return false;
@@ -188,9 +188,9 @@ impl Delay {
         ensures far { (result ≡ modified.TooFar) ↔ IsTrue (is_too_far delay self.old.table) }
         ensures memory { result ≢ modified.Memory }
         ensures looked { self.new.looked ≡ self.old.looked }
-        ensures idle { result ≡ modified.WasIdle → 0 < delay → on_table item self.new.table.entries ≡ true }
-        ensures moved { result ≡ modified.Moved → 0 < delay → on_table item self.new.table.entries ≡ true }
-        ensures others { (k : ℕ) → k ≢ item → on_table k self.new.table.entries ≡ on_table k self.old.table.entries }
+        ensures on { result ≡ modified.WasIdle → 0 < delay → on_table item self.new.table.entries ≡ true }
+        ensures still_on { result ≡ modified.Moved → 0 < delay → on_table item self.new.table.entries ≡ true }
+        ensures other_items { (k : ℕ) → k ≢ item → on_table k self.new.table.entries ≡ on_table k self.old.table.entries }
     {
         let Some(due) = tick_after(self.table.tick(), self.next, delay) else {
             return Modified::TooFar;

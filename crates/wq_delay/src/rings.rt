@@ -1,5 +1,5 @@
 //! Rings of places: each place is linked to the next of its ring and to the previous one.
-ghost use Rattle.std.specs.Prelude.{◌≡◌, ◌<◌, ◌≤◌, ◌^◌, length, set, slice_index, IfOk};
+ghost use Rattle.std.specs.Prelude.{◌≡◌, ◌<◌, length, set, slice_index, IfOk};
 ghost use Rattle.std.specs.List.{range_with_len};
 
 use std::alloc::{AllocError, Global};

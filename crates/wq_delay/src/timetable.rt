@@ -1,7 +1,7 @@
 //! Items by the ticks at which they are due: a wheel of slots, and a row of what is due.
-ghost use Rattle.std.specs.Prelude.{◌≡◌, ℕ, ◌<◌, ◌≤◌, ◌-◌, ◌^◌, true, false, [], length, min, IfOk, IfSome, MatchOption};
+ghost use Rattle.std.specs.Prelude.{◌≡◌, ℕ, ◌<◌, ◌≤◌, ◌-◌, true, false, [], length, min, IfOk, IfSome, MatchOption};
 ghost use Rattle.wq_words.specs.Limits.{most_items};
-ghost use Rattle.wq_words.specs.DelayTable.{items, on_table, due_part, placed, without, IsOrdered, AreArmedBefore};
+ghost use Rattle.wq_words.specs.DelayTable.{items, on_table, due_part, placed, without, AreArmedBefore};
 ghost use Rattle.std.specs.Prelude.{map, filter, take, drop, nat_le, ◌&&◌, ◌+◌, ◌*◌, OnOk, slice_index_or};
 ghost use Rattle.std.specs.Vec.{vec_capacity};
 ghost use Rattle.std.specs.List.{All};

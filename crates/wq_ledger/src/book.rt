@@ -98,7 +98,7 @@ impl Book {
         ensures headline { KeepsHeadline self.now.seen }
         ensures all_began { begun self.now.seen ≡ accepted self.now.seen }
         ensures all_ended { ended self.now.seen ≡ begun self.now.seen }
-        ensures own { IsLedgerOf self.now.seen self.now.own }
+        ensures own_ledger { IsLedgerOf self.now.seen self.now.own }
     {
         // opens the book, whose invariant says this
         let _ = &self.owner;

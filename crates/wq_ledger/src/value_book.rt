@@ -65,7 +65,7 @@ impl<V: Drop> ValueBook<V> {
         ensures headline { KeepsHeadline self.now.book.seen }
         ensures all_began { begun self.now.book.seen ≡ accepted self.now.book.seen }
         ensures all_ended { ended self.now.book.seen ≡ begun self.now.book.seen }
-        ensures own { IsLedgerOf self.now.book.seen self.now.book.own }
+        ensures own_ledger { IsLedgerOf self.now.book.seen self.now.book.own }
         ensures values { IsLegalWith self.now.book.layout (with_values self.now.book.seen self.now.brought) }
         ensures handed { take (length (begun self.now.book.seen)) self.now.brought ≡ self.now.brought }
         ensures whole { AreBrought self.now.book.layout.items (accepted self.now.book.seen) self.now.brought }
@@ -83,7 +83,9 @@ impl<V: Drop> ValueBook<V> {
         ensures number { result.number ≡ sender.old.known.number }
         ensures counts { result.counts ≡ sender_counts sender.new.known.number sender.new.known.seen }
         ensures kept { (ledger : Ledger) → IsLedgerOf self.old.book.seen ledger → IsLedgerOf self.new.book.seen ledger }
-        ensures same { (self.new.book.queue ≡ self.old.book.queue) × (self.new.book.layout ≡ self.old.book.layout) × (self.new.book.own ≡ self.old.book.own) }
+        ensures same { (self.new.book.queue ≡ self.old.book.queue)
+            × (self.new.book.layout ≡ self.old.book.layout)
+            × (self.new.book.own ≡ self.old.book.own) }
         ensures owner { Grows owner_seat [] 0 self.old.book.seen self.new.book.seen }
         ensures sender { Sees [] 0 sender.old.known sender.new.known }
         ensures own { own sender.old.known.number sender.new.known.seen ≡ own sender.old.known.number sender.old.known.seen }

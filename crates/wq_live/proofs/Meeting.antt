@@ -1,6 +1,6 @@
 -- An owner that a sender meets.
-use Rattle.wq_live.proofs.Common.{◌≡◌, ℕ, ◌<◌, List, [], Option, sym, refl, ap, ◌∙◌, subst, arith, IsPrefix, Layout, Machine, IsSound, Part, Stage}
-use Rattle.wq_live.proofs.Common.{HasStage, IsPartOf, see, all_see, Standing, IsSender, seeing, plain_view, ValueStanding, standing_of, knowing}
+use Rattle.wq_live.proofs.Common.{◌≡◌, List, [], Option, sym, refl, ap, ◌∙◌, subst, IsPrefix, Machine, IsSound, Part, Stage}
+use Rattle.wq_live.proofs.Common.{IsPartOf, see, all_see, Standing, seeing, plain_view, ValueStanding, standing_of, knowing}
 use Rattle.wq_live.proofs.Common.{plain_telling, owner_seat, Owning as Inside, Known, Sees, Sending, owner_view, sender_view, Sends, Stands, HasRow}
 use Rattle.wq_live.proofs.Common.{OwnsQueue, kept_batch, OwnsSlots}
 use Rattle.wq_table.specs.declared.table.Stage.TheVariants as stage

@@ -1,5 +1,5 @@
 -- What an owner knows of its batch and of what it executes stays while others alone add events.
-use Rattle.wq_live.proofs.Common.{◌≡◌, ℕ, ◌≤◌, Bool, true, false, List, [], ◌∷◌, ◌++◌, Some, length, take, refl, ap, ◌∙◌, subst, arith, append-nil, Layout, Event, accepted, begun}
+use Rattle.wq_live.proofs.Common.{◌≡◌, ℕ, ◌≤◌, Bool, true, false, List, [], ◌∷◌, ◌++◌, Some, length, refl, ap, ◌∙◌, subst, arith, append-nil, Layout, Event, accepted, begun}
 use Rattle.wq_live.proofs.Common.{ended, running, IsShut, accepted-append, legal_front, begun_same, own-append, IsLegal, owner_seat, own, Grows, batch}
 use Rattle.wq_live.proofs.Common.{sym, Known, Sees, KnownWith, Learnt, sender_counts}
 use Rattle.std.specs.Prelude.{drop}
@@ -72,12 +72,12 @@ module _ (n : ℕ) (old new : Known) (mine : old.number ≡ owner_seat) (sees : 
     running_is = running_quiet [] n old.seen new.seen g refl refl;
     closed_is = closed_quiet [] n old.seen new.seen g refl;
     shut_is = shut_still [] n old.seen new.seen g refl;
-    idle = quiet_idle [] n old new mine sees refl refl;
-    runs = quiet_runs [] n old new mine sees refl refl;
-    opens = open_stays [] n old new mine sees refl;
-    shuts = shut_stays [] n old new mine sees refl;
-    uncloses = unclosed_stays [] n old new mine sees refl;
-    closes = closed_stays [] n old new sees;
+    stays_idle = quiet_idle [] n old new mine sees refl refl;
+    stays_running = quiet_runs [] n old new mine sees refl refl;
+    stays_open = open_stays [] n old new mine sees refl;
+    stays_shut = shut_stays [] n old new mine sees refl;
+    stays_unclosed = unclosed_stays [] n old new mine sees refl;
+    stays_closed = closed_stays [] n old new sees;
   }
 
   pub shut_end : IsShut old.seen → IsStillEnd old.seen new.seen

@@ -1,9 +1,8 @@
 -- Queueings: the seat stays the same, and one that a drain refused.
-use Rattle.wq_live.proofs.Common.{ℕ, [], ◌∷◌, ◌++◌, arith, Hold, Back, Known, IsSame, Sees, Answer, HasMetDrain, Answers}
+use Rattle.wq_live.proofs.Common.{ℕ, [], ◌∷◌, subst, arith, Hold, Back, Known, IsSame, Sees, Answer, HasMetDrain, Answers}
 use Rattle.wq_words.specs.declared.event.Why.TheVariants as why
 use Rattle.wq_words.specs.declared.answer.Answer.TheVariants as answer
 use Rattle.wq_live.proofs.Sends.{sees_on}
-use Rattle.wq_live.proofs.Drained.{grows_by, met_since, met_still}
 
 -- it is the same seat
 pub answers_same : (k tries : ℕ) (a : Answer) (s t : Known) → Answers k tries a s t → IsSame s t
@@ -19,7 +18,12 @@ pub turned_back : (k : ℕ) (s t u w : Known) → Sees (Hold s.number k ∷ []) 
 turned_back k s t u w held met gave =
     let upto : Sees (Hold s.number k ∷ []) 0 s u = sees_on (λ z. Hold z k ∷ []) (λ z. []) 0 0 0 s t u (omega arith) held met.0 in (
       sees_on (λ z. Hold z k ∷ []) (λ z. Back z k why.Draining ∷ []) 0 0 0 s u w (omega arith) upto gave,
-      met_still u.number (Back u.number k why.Draining ∷ []) 0 (s.seen ++ Hold s.number k ∷ []) u.seen w.seen
-          (grows_by s.number (Hold s.number k ∷ []) 0 s.seen u.seen upto.grows) gave.grows
-          (met_since (s.seen ++ Hold s.number k ∷ []) t.seen u.seen (grows_by s.number (Hold s.number k ∷ []) 0 s.seen t.seen held.grows) met.1),
+      record {
+        held = t;
+        refused = u;
+        holds = held;
+        looks = met.0;
+        met = met.1;
+        gives = subst (λ (c : ℕ). Sees (Back c k why.Draining ∷ []) 0 u w) upto.same.number_is gave;
+      },
     )

@@ -30,6 +30,15 @@ pub record IsPushed (s k : ℕ) (is_first is_waking : Bool) (h : List Event) : T
 abbrev pub HasMetDrain : List Event → List Event → Type 0
 HasMetDrain before after = (moment : ℕ) × (length before ≤ moment) × IsDraining (take moment after)
 
+-- A queueing of k that a drain turned back: the hold, a look that meets the queue draining, the give-back.
+pub record IsTurnedBack (k : ℕ) (old new : Known) : Type 0 where
+  pub held : Known
+  pub refused : Known
+  pub holds : Sees (Hold old.number k ∷ []) 0 old held
+  pub looks : Sees [] 0 held refused
+  pub met : HasMetDrain held.seen refused.seen
+  pub gives : Sees (Back old.number k why.Draining ∷ []) 0 refused new
+
 -- the test-and-set of the number k's bit: true where it was clear
 abbrev pub TestsAndSets : ℕ → Bool → Known → Known → Type 0
 TestsAndSets k true old new = Sees (Hold old.number k ∷ []) 0 old new
@@ -42,7 +51,7 @@ Answers k tries (answer.Queued is_first is_waking) old new =
 Answers k tries answer.Pending old new = Sees (Busy old.number k ∷ []) 0 old new
 Answers k tries answer.Closed old new = Sees (Hold old.number k ∷ Back old.number k why.Closed ∷ []) 0 old new
 Answers k tries answer.Draining old new =
-    Sees (Hold old.number k ∷ Back old.number k why.Draining ∷ []) 0 old new × HasMetDrain (old.seen ++ Hold old.number k ∷ []) new.seen
+    Sees (Hold old.number k ∷ Back old.number k why.Draining ∷ []) 0 old new × IsTurnedBack k old new
 Answers k tries answer.Contended old new = Sees (Hold old.number k ∷ Back old.number k why.Contended ∷ []) tries old new
 
 -- The last events of sender s in h are its hold of k and, after lost tries, the give-back. Between the two stand at least n

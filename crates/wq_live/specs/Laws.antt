@@ -35,9 +35,9 @@ pub record IsStillOwned (earlier later : List Event) : Type 0 where
   pub running_is : running later ≡ running earlier
   pub closed_is : closed later ≡ closed earlier
   pub shut_is : shut later ≡ shut earlier
-  pub idle : ¬ IsRunning earlier → ¬ IsRunning later
-  pub runs : IsRunning earlier → IsRunning later
-  pub opens : ¬ IsShut earlier → ¬ IsShut later
-  pub shuts : IsShut earlier → IsShut later
-  pub uncloses : ¬ IsClosed earlier → ¬ IsClosed later
-  pub closes : IsClosed earlier → IsClosed later
+  pub stays_idle : ¬ IsRunning earlier → ¬ IsRunning later
+  pub stays_running : IsRunning earlier → IsRunning later
+  pub stays_open : ¬ IsShut earlier → ¬ IsShut later
+  pub stays_shut : IsShut earlier → IsShut later
+  pub stays_unclosed : ¬ IsClosed earlier → ¬ IsClosed later
+  pub stays_closed : IsClosed earlier → IsClosed later

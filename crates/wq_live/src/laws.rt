@@ -58,8 +58,8 @@ pub fn executions_grow()
         → running new.seen ≡ running old.seen }
 {}
 
-/// Where an owner sees more and makes no event, as at a meeting or where the sender in its seat queues, its batch, the number that
-/// runs and whether the queue takes pushes are as they were. Where it takes none, nothing more was accepted either.
+/// Where an owner sees more and makes no event, as at a meeting or where the sender in its seat queues, its batch, what began, ended
+/// and runs, and whether the queue takes pushes are as they were. Where it takes none, nothing more was accepted either.
 pub fn owner_stays()
     ensures owned { (n : ℕ) (old new : Known) → old.number ≡ owner_seat → Sees [] n old new → IsStillOwned old.seen new.seen }
     ensures shut { (n : ℕ) (old new : Known) → old.number ≡ owner_seat → Sees [] n old new → IsShut old.seen → IsStillEnd old.seen new.seen }
@@ -91,7 +91,7 @@ pub fn unheld_stays()
         → ¬ Holds old.seen old.number k → ¬ Holds new.seen new.number k }
     ensures held { (k j : ℕ) (b : Bool) (old new : Known) → TestsAndSets j b old new → k ≢ j
         → ¬ Holds old.seen old.number k → ¬ Holds new.seen new.number k }
-    ensures refused { (k j : ℕ) (old new : Known) → TestsAndSets j false old new → ¬ Holds old.seen old.number k → ¬ Holds new.seen new.number k }
+    ensures still_unheld { (k j : ℕ) (old new : Known) → TestsAndSets j false old new → ¬ Holds old.seen old.number k → ¬ Holds new.seen new.number k }
     ensures posted { (k j tries : ℕ) (a : Posted) (old new : Known) → Posts j tries a old new
         → ¬ Holds old.seen old.number k → ¬ Holds new.seen new.number k }
     ensures given { (k j n : ℕ) (why : Why) (old new : Known) → Sees (Back old.number j why ∷ []) n old new

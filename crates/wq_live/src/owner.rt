@@ -172,7 +172,8 @@ impl Owner {
         requires runs { IsRunning self.old.seen }
         ensures seen { (k : ℕ) → running self.old.seen ≡ Some k → Sees (End k ∷ []) 0 self.old self.new }
         ensures unqueued { accepted (own self.new.number self.new.seen) ≡ accepted (own self.old.number self.old.seen) }
-        ensures executions { (begun self.new.seen ≡ begun self.old.seen) × ((k : ℕ) → running self.old.seen ≡ Some k → ended self.new.seen ≡ ended self.old.seen ++ k ∷ []) }
+        ensures executions { (begun self.new.seen ≡ begun self.old.seen)
+            × ((k : ℕ) → running self.old.seen ≡ Some k → ended self.new.seen ≡ ended self.old.seen ++ k ∷ []) }
         ensures same { IsSame self.old self.new }
         ensures batch { batch self.new.seen ≡ batch self.old.seen }
         ensures idle { ¬ IsRunning self.new.seen }

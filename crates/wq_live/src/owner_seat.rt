@@ -187,7 +187,8 @@ impl<V: Drop> OwnerSeat<V> {
         ensures learns { Learns 0 self.old.chair self.new.chair }
         ensures seen { Sees (Take ∷ []) 0 (owner_view (owning self.old)) (owner_view (owning self.new)) }
         ensures unqueued { accepted (own owner_seat (owner_view (owning self.new)).seen) ≡ accepted (own owner_seat (owner_view (owning self.old)).seen) }
-        ensures executions { (begun (owner_view (owning self.new)).seen ≡ begun (owner_view (owning self.old)).seen) × (ended (owner_view (owning self.new)).seen ≡ ended (owner_view (owning self.old)).seen) }
+        ensures executions { (begun (owner_view (owning self.new)).seen ≡ begun (owner_view (owning self.old)).seen)
+            × (ended (owner_view (owning self.new)).seen ≡ ended (owner_view (owning self.old)).seen) }
         ensures takes { TakesAll Take result (owner_view (owning self.new)).seen }
         ensures count { result ≡ length (batch (owner_view (owning self.new)).seen) }
         ensures open { ¬ IsShut (owner_view (owning self.new)).seen }
@@ -207,7 +208,8 @@ impl<V: Drop> OwnerSeat<V> {
         ensures learns { Learns 0 self.old.chair self.new.chair }
         ensures seen { Sees (Close ∷ []) 0 (owner_view (owning self.old)) (owner_view (owning self.new)) }
         ensures unqueued { accepted (own owner_seat (owner_view (owning self.new)).seen) ≡ accepted (own owner_seat (owner_view (owning self.old)).seen) }
-        ensures executions { (begun (owner_view (owning self.new)).seen ≡ begun (owner_view (owning self.old)).seen) × (ended (owner_view (owning self.new)).seen ≡ ended (owner_view (owning self.old)).seen) }
+        ensures executions { (begun (owner_view (owning self.new)).seen ≡ begun (owner_view (owning self.old)).seen)
+            × (ended (owner_view (owning self.new)).seen ≡ ended (owner_view (owning self.old)).seen) }
         ensures takes { TakesAll Close result (owner_view (owning self.new)).seen }
         ensures behind { IsPrefix (batch (owner_view (owning self.old)).seen) (batch (owner_view (owning self.new)).seen) }
         ensures count { length (batch (owner_view (owning self.new)).seen) ≡ length (batch (owner_view (owning self.old)).seen) + result }
@@ -230,7 +232,8 @@ impl<V: Drop> OwnerSeat<V> {
         ensures learns { Learns 0 self.old.chair self.new.chair }
         ensures seen { Sees (Drain ∷ []) 0 (owner_view (owning self.old)) (owner_view (owning self.new)) }
         ensures unqueued { accepted (own owner_seat (owner_view (owning self.new)).seen) ≡ accepted (own owner_seat (owner_view (owning self.old)).seen) }
-        ensures executions { (begun (owner_view (owning self.new)).seen ≡ begun (owner_view (owning self.old)).seen) × (ended (owner_view (owning self.new)).seen ≡ ended (owner_view (owning self.old)).seen) }
+        ensures executions { (begun (owner_view (owning self.new)).seen ≡ begun (owner_view (owning self.old)).seen)
+            × (ended (owner_view (owning self.new)).seen ≡ ended (owner_view (owning self.old)).seen) }
         ensures takes { TakesAll Drain result (owner_view (owning self.new)).seen }
         ensures behind { IsPrefix (batch (owner_view (owning self.old)).seen) (batch (owner_view (owning self.new)).seen) }
         ensures count { length (batch (owner_view (owning self.new)).seen) ≡ length (batch (owner_view (owning self.old)).seen) + result }
@@ -256,7 +259,8 @@ impl<V: Drop> OwnerSeat<V> {
         ensures learns { Learns 0 self.old.chair self.new.chair }
         ensures seen { Sees (Resume ∷ []) 0 (owner_view (owning self.old)) (owner_view (owning self.new)) }
         ensures unqueued { accepted (own owner_seat (owner_view (owning self.new)).seen) ≡ accepted (own owner_seat (owner_view (owning self.old)).seen) }
-        ensures executions { (begun (owner_view (owning self.new)).seen ≡ begun (owner_view (owning self.old)).seen) × (ended (owner_view (owning self.new)).seen ≡ ended (owner_view (owning self.old)).seen) }
+        ensures executions { (begun (owner_view (owning self.new)).seen ≡ begun (owner_view (owning self.old)).seen)
+            × (ended (owner_view (owning self.new)).seen ≡ ended (owner_view (owning self.old)).seen) }
         ensures open { ¬ IsShut (owner_view (owning self.new)).seen }
         ensures unclosed { ¬ IsClosed (owner_view (owning self.new)).seen }
         ensures empty { batch (owner_view (owning self.new)).seen ≡ [] }
@@ -328,7 +332,8 @@ impl<V: Drop> OwnerSeat<V> {
         ensures next { next_of (owner_view (owning self.old)).seen ≡ Some result }
         ensures seen { Sees (Begin result ∷ []) 0 (owner_view (owning self.old)) (owner_view (owning self.new)) }
         ensures unqueued { accepted (own owner_seat (owner_view (owning self.new)).seen) ≡ accepted (own owner_seat (owner_view (owning self.old)).seen) }
-        ensures executions { (begun (owner_view (owning self.new)).seen ≡ begun (owner_view (owning self.old)).seen ++ result ∷ []) × (ended (owner_view (owning self.new)).seen ≡ ended (owner_view (owning self.old)).seen) }
+        ensures executions { (begun (owner_view (owning self.new)).seen ≡ begun (owner_view (owning self.old)).seen ++ result ∷ [])
+            × (ended (owner_view (owning self.new)).seen ≡ ended (owner_view (owning self.old)).seen) }
         ensures batch { batch (owner_view (owning self.old)).seen ≡ result ∷ batch (owner_view (owning self.new)).seen }
         ensures runs { IsRunning (owner_view (owning self.new)).seen }
         ensures running { running (owner_view (owning self.new)).seen ≡ Some result }
@@ -353,7 +358,9 @@ impl<V: Drop> OwnerSeat<V> {
             → Sees (End k ∷ []) 0 (owner_view (owning self.old)) (owner_view (owning self.new)) }
         ensures same { IsSame (owner_view (owning self.old)) (owner_view (owning self.new)) }
         ensures unqueued { accepted (own owner_seat (owner_view (owning self.new)).seen) ≡ accepted (own owner_seat (owner_view (owning self.old)).seen) }
-        ensures executions { (begun (owner_view (owning self.new)).seen ≡ begun (owner_view (owning self.old)).seen) × ((k : ℕ) → running (owner_view (owning self.old)).seen ≡ Some k → ended (owner_view (owning self.new)).seen ≡ ended (owner_view (owning self.old)).seen ++ k ∷ []) }
+        ensures executions { (begun (owner_view (owning self.new)).seen ≡ begun (owner_view (owning self.old)).seen)
+            × ((k : ℕ) → running (owner_view (owning self.old)).seen ≡ Some k
+            → ended (owner_view (owning self.new)).seen ≡ ended (owner_view (owning self.old)).seen ++ k ∷ []) }
         ensures batch { batch (owner_view (owning self.new)).seen ≡ batch (owner_view (owning self.old)).seen }
         ensures idle { ¬ IsRunning (owner_view (owning self.new)).seen }
         ensures shut { IsShut (owner_view (owning self.old)).seen → IsShut (owner_view (owning self.new)).seen }
@@ -375,7 +382,8 @@ impl<V: Drop> OwnerSeat<V> {
         ensures learns { Learns 0 self.old.chair self.new.chair }
         ensures seen { Rests result (owner_view (owning self.old)) (owner_view (owning self.new)) }
         ensures unqueued { accepted (own owner_seat (owner_view (owning self.new)).seen) ≡ accepted (own owner_seat (owner_view (owning self.old)).seen) }
-        ensures executions { (begun (owner_view (owning self.new)).seen ≡ begun (owner_view (owning self.old)).seen) × (ended (owner_view (owning self.new)).seen ≡ ended (owner_view (owning self.old)).seen) }
+        ensures executions { (begun (owner_view (owning self.new)).seen ≡ begun (owner_view (owning self.old)).seen)
+            × (ended (owner_view (owning self.new)).seen ≡ ended (owner_view (owning self.old)).seen) }
         ensures rested { IsTrue result → HasRested (owner_view (owning self.new)).seen }
         ensures refused { result ≡ false → MayNotRest (owner_view (owning self.new)).seen }
         ensures same { IsSame (owner_view (owning self.old)) (owner_view (owning self.new)) }
@@ -399,7 +407,8 @@ impl<V: Drop> OwnerSeat<V> {
         ensures answer { Chains item result (owner_view (owning self.old)) (owner_view (owning self.new)) }
         ensures same { IsSame (owner_view (owning self.old)) (owner_view (owning self.new)) }
         ensures batch { batch (owner_view (owning self.new)).seen ≡ batch (owner_view (owning self.old)).seen ++ queued_number item result }
-        ensures executions { (begun (owner_view (owning self.new)).seen ≡ begun (owner_view (owning self.old)).seen) × (ended (owner_view (owning self.new)).seen ≡ ended (owner_view (owning self.old)).seen) }
+        ensures executions { (begun (owner_view (owning self.new)).seen ≡ begun (owner_view (owning self.old)).seen)
+            × (ended (owner_view (owning self.new)).seen ≡ ended (owner_view (owning self.old)).seen) }
         ensures running { running (owner_view (owning self.new)).seen ≡ running (owner_view (owning self.old)).seen }
         ensures shut { IsShut (owner_view (owning self.new)).seen }
         ensures closed { IsClosed (owner_view (owning self.old)).seen → IsClosed (owner_view (owning self.new)).seen }
@@ -429,7 +438,8 @@ impl<V: Drop> OwnerSeat<V> {
         ensures next { next_of (owner_view (owning self.old)).seen ≡ Some result.0 }
         ensures seen { Sees (Begin result.0 ∷ []) 0 (owner_view (owning self.old)) (owner_view (owning self.new)) }
         ensures unqueued { accepted (own owner_seat (owner_view (owning self.new)).seen) ≡ accepted (own owner_seat (owner_view (owning self.old)).seen) }
-        ensures executions { (begun (owner_view (owning self.new)).seen ≡ begun (owner_view (owning self.old)).seen ++ result.0 ∷ []) × (ended (owner_view (owning self.new)).seen ≡ ended (owner_view (owning self.old)).seen) }
+        ensures executions { (begun (owner_view (owning self.new)).seen ≡ begun (owner_view (owning self.old)).seen ++ result.0 ∷ [])
+            × (ended (owner_view (owning self.new)).seen ≡ ended (owner_view (owning self.old)).seen) }
         ensures batch { batch (owner_view (owning self.old)).seen ≡ result.0 ∷ batch (owner_view (owning self.new)).seen }
         ensures value { slice_get self.new.chair.first.brought (length (begun (owner_view (owning self.old)).seen)) ≡ Some result.1 }
         ensures kind { Carries (owner_view (owning self.old)).layout.items result.0 result.1 }
@@ -457,7 +467,8 @@ impl<V: Drop> OwnerSeat<V> {
         ensures value { ChainsOrReturns item value result (owner_with self.new) }
         ensures same { IsSame (owner_view (owning self.old)) (owner_view (owning self.new)) }
         ensures batch { batch (owner_view (owning self.new)).seen ≡ batch (owner_view (owning self.old)).seen ++ queued_number item (answer_of result) }
-        ensures executions { (begun (owner_view (owning self.new)).seen ≡ begun (owner_view (owning self.old)).seen) × (ended (owner_view (owning self.new)).seen ≡ ended (owner_view (owning self.old)).seen) }
+        ensures executions { (begun (owner_view (owning self.new)).seen ≡ begun (owner_view (owning self.old)).seen)
+            × (ended (owner_view (owning self.new)).seen ≡ ended (owner_view (owning self.old)).seen) }
         ensures running { running (owner_view (owning self.new)).seen ≡ running (owner_view (owning self.old)).seen }
         ensures shut { IsShut (owner_view (owning self.new)).seen }
         ensures closed { IsClosed (owner_view (owning self.old)).seen → IsClosed (owner_view (owning self.new)).seen }

@@ -7,7 +7,7 @@ ghost use Rattle.wq_words.specs.Numbers.{number_count};
 ghost use Rattle.wq_words.specs.History.{IsClosed, IsShut, IsDraining, closed, IsRunning, running, accepted, begun, ended};
 ghost use Rattle.wq_words.specs.Legal.{IsLegal, HasRunOut};
 ghost use Rattle.wq_words.specs.Headline.{KeepsHeadline};
-ghost use Rattle.wq_words.specs.Seen.{owner_seat, Grows, own};
+ghost use Rattle.wq_words.specs.Seen.{owner_seat, own};
 ghost use Rattle.wq_live.specs.Known.{Sees};
 ghost use Rattle.wq_live.specs.Answers.{Answers, Chains, IsContended};
 ghost use Rattle.wq_live.specs.Batch.{batch, next_of, TakesAll};
@@ -279,7 +279,8 @@ impl Pair {
         requires runs { IsRunning self.old.seen }
         ensures seen { (k : ℕ) → running self.old.seen ≡ Some k → Sees (End k ∷ []) 0 (pair_owner self.old) (pair_owner self.new) }
         ensures unqueued { accepted (own owner_seat self.new.seen) ≡ accepted (own owner_seat self.old.seen) }
-        ensures executions { (begun self.new.seen ≡ begun self.old.seen) × ((k : ℕ) → running self.old.seen ≡ Some k → ended self.new.seen ≡ ended self.old.seen ++ k ∷ []) }
+        ensures executions { (begun self.new.seen ≡ begun self.old.seen)
+            × ((k : ℕ) → running self.old.seen ≡ Some k → ended self.new.seen ≡ ended self.old.seen ++ k ∷ []) }
         ensures batch { batch self.new.seen ≡ batch self.old.seen }
         ensures idle { ¬ IsRunning self.new.seen }
         ensures shut { IsShut self.old.seen → IsShut self.new.seen }

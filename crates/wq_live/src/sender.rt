@@ -167,7 +167,7 @@ impl Sender {
         ensures held { IsTrue result → Holds self.new.seen self.new.number item }
         ensures keeps { (k : ℕ) → Holds self.old.seen self.old.number k → Holds self.new.seen self.new.number k }
         ensures unheld { (k : ℕ) → k ≢ item → ¬ Holds self.old.seen self.old.number k → ¬ Holds self.new.seen self.new.number k }
-        ensures refused { result ≡ false → (k : ℕ) → ¬ Holds self.old.seen self.old.number k → ¬ Holds self.new.seen self.new.number k }
+        ensures still_unheld { result ≡ false → (k : ℕ) → ¬ Holds self.old.seen self.old.number k → ¬ Holds self.new.seen self.new.number k }
     {
         self.hold_number(item)
     }
@@ -263,7 +263,7 @@ impl Sender {
         ensures keeps { (k : ℕ) → Holds self.old.seen self.old.number k → Holds self.new.seen self.new.number k }
         ensures settled { result ≢ Contended }
         ensures flushed { (first wakes : _) → result ≡ Queued first wakes → HasFlushed (barrier_number self.old.layout barrier) self.new.seen }
-        ensures all { (first wakes : _) → result ≡ Queued first wakes → IsPrefix (accepted self.old.seen) (ended self.new.seen) }
+        ensures ended { (first wakes : _) → result ≡ Queued first wakes → IsPrefix (accepted self.old.seen) (ended self.new.seen) }
     {
         let number = self.sent.layout.barrier(barrier);
         match self.queue_waiting(rt, number) {
@@ -299,7 +299,8 @@ impl Sender {
         ensures this { Sees [] 0 self.old self.new }
         ensures keeps { (k : ℕ) → Holds self.old.seen self.old.number k → Holds self.new.seen self.new.number k }
         ensures that { Sees [] 0 other.old other.new }
-        ensures own { (own self.old.number self.new.seen ≡ own self.old.number self.old.seen) × (own other.old.number other.new.seen ≡ own other.old.number other.old.seen) }
+        ensures own { (own self.old.number self.new.seen ≡ own self.old.number self.old.seen)
+            × (own other.old.number other.new.seen ≡ own other.old.number other.old.seen) }
         ensures both { other.new.seen ≡ self.new.seen }
         ensures layout { other.old.layout ≡ self.old.layout }
     {
@@ -312,7 +313,8 @@ impl Sender {
         ensures this { Sees [] 0 self.old self.new }
         ensures keeps { (k : ℕ) → Holds self.old.seen self.old.number k → Holds self.new.seen self.new.number k }
         ensures that { Sees [] 0 owner.old owner.new }
-        ensures own { (own self.old.number self.new.seen ≡ own self.old.number self.old.seen) × (own owner.old.number owner.new.seen ≡ own owner.old.number owner.old.seen) }
+        ensures own { (own self.old.number self.new.seen ≡ own self.old.number self.old.seen)
+            × (own owner.old.number owner.new.seen ≡ own owner.old.number owner.old.seen) }
         ensures owned { IsStillOwned owner.old.seen owner.new.seen }
         ensures both { owner.new.seen ≡ self.new.seen }
         ensures layout { owner.old.layout ≡ self.old.layout }
@@ -331,7 +333,8 @@ impl Sender {
         ensures keeps { (k : ℕ) → Holds self.old.seen self.old.number k → Holds self.new.seen self.new.number k }
         ensures that { Sees [] 0 other.old other.new }
         ensures owners { Sees [] 0 owner.old owner.new }
-        ensures own { (own self.old.number self.new.seen ≡ own self.old.number self.old.seen) × (own other.old.number other.new.seen ≡ own other.old.number other.old.seen)
+        ensures own { (own self.old.number self.new.seen ≡ own self.old.number self.old.seen)
+            × (own other.old.number other.new.seen ≡ own other.old.number other.old.seen)
             × (own owner.old.number owner.new.seen ≡ own owner.old.number owner.old.seen) }
         ensures owned { IsStillOwned owner.old.seen owner.new.seen }
         ensures all { (other.new.seen ≡ self.new.seen) × (owner.new.seen ≡ self.new.seen) }

@@ -1,5 +1,5 @@
 //! How long a seat gives way to the others.
-ghost use Rattle.std.specs.Prelude.{ℕ, ◌≤◌, IfOk};
+ghost use Rattle.std.specs.Prelude.{◌≤◌, IfOk};
 
 use std::hint::spin_loop;
 use std::io;

@@ -170,7 +170,8 @@ impl<V: Drop> ValueOwner<V> {
         ensures next { next_of self.old.known.seen ≡ Some result.0 }
         ensures seen { Sees (Begin result.0 ∷ []) 0 self.old.known self.new.known }
         ensures unqueued { accepted (own self.new.known.number self.new.known.seen) ≡ accepted (own self.old.known.number self.old.known.seen) }
-        ensures executions { (begun self.new.known.seen ≡ begun self.old.known.seen ++ result.0 ∷ []) × (ended self.new.known.seen ≡ ended self.old.known.seen) }
+        ensures executions { (begun self.new.known.seen ≡ begun self.old.known.seen ++ result.0 ∷ [])
+            × (ended self.new.known.seen ≡ ended self.old.known.seen) }
         ensures learnt { Learnt self.old self.new }
         ensures handed { handed_in self.new ≡ handed_in self.old ++ result.1 ∷ [] }
         ensures batch { batch self.old.known.seen ≡ result.0 ∷ batch self.new.known.seen }
@@ -191,7 +192,8 @@ impl<V: Drop> ValueOwner<V> {
         requires runs { IsRunning self.old.known.seen }
         ensures seen { (k : ℕ) → running self.old.known.seen ≡ Some k → Sees (End k ∷ []) 0 self.old.known self.new.known }
         ensures unqueued { accepted (own self.new.known.number self.new.known.seen) ≡ accepted (own self.old.known.number self.old.known.seen) }
-        ensures executions { (begun self.new.known.seen ≡ begun self.old.known.seen) × ((k : ℕ) → running self.old.known.seen ≡ Some k → ended self.new.known.seen ≡ ended self.old.known.seen ++ k ∷ []) }
+        ensures executions { (begun self.new.known.seen ≡ begun self.old.known.seen)
+            × ((k : ℕ) → running self.old.known.seen ≡ Some k → ended self.new.known.seen ≡ ended self.old.known.seen ++ k ∷ []) }
         ensures learnt { Learnt self.old self.new }
         ensures handed { handed_in self.new ≡ handed_in self.old }
         ensures same { IsSame self.old.known self.new.known }
@@ -273,7 +275,8 @@ impl<V: Drop> ValueOwner<V> {
     /// Whether the queue drains and all that was accepted has ended, so that it can be resumed.
     pub fn drained(&self) -> bool
         ensures drained { IsTrue result ↔ (IsDraining self.now.known.seen × HasRunOut self.now.known.seen) }
-        ensures all { IsTrue result → (ended self.now.known.seen ≡ begun self.now.known.seen) × (begun self.now.known.seen ≡ accepted self.now.known.seen) }
+        ensures all { IsTrue result → (ended self.now.known.seen ≡ begun self.now.known.seen)
+            × (begun self.now.known.seen ≡ accepted self.now.known.seen) }
         ensures rested { IsTrue result → (batch self.now.known.seen ≡ []) × (¬ IsRunning self.now.known.seen) }
         ensures finished { IsDraining self.now.known.seen → batch self.now.known.seen ≡ [] → ¬ IsRunning self.now.known.seen → IsTrue result }
     {
@@ -291,7 +294,8 @@ impl<V: Drop> ValueOwner<V> {
     pub fn done(&self) -> Option<Done>
         ensures complete { IsSome result ↔ IsComplete self.now.known.seen }
         ensures count { IfSome result (λ done. done.ended ≡ capped (length (ended self.now.known.seen))) }
-        ensures all { IsSome result → (ended self.now.known.seen ≡ begun self.now.known.seen) × (begun self.now.known.seen ≡ accepted self.now.known.seen) }
+        ensures all { IsSome result → (ended self.now.known.seen ≡ begun self.now.known.seen)
+            × (begun self.now.known.seen ≡ accepted self.now.known.seen) }
         ensures handed { IsSome result → handed_in self.now ≡ self.now.brought }
         ensures last { IsSome result → IsFinal self.now.known.layout self.now.known.seen }
         ensures finished { IsClosed self.now.known.seen → batch self.now.known.seen ≡ [] → ¬ IsRunning self.now.known.seen → IsSome result }

@@ -150,7 +150,8 @@ impl<V: Drop> ValuePair<V> {
     /// As `ValueOwner::drained`.
     pub fn drained(&self) -> bool
         ensures drained { IsTrue result ↔ (IsDraining self.now.known.seen × HasRunOut self.now.known.seen) }
-        ensures all { IsTrue result → (ended self.now.known.seen ≡ begun self.now.known.seen) × (begun self.now.known.seen ≡ accepted self.now.known.seen) }
+        ensures all { IsTrue result → (ended self.now.known.seen ≡ begun self.now.known.seen)
+            × (begun self.now.known.seen ≡ accepted self.now.known.seen) }
         ensures rested { IsTrue result → (batch self.now.known.seen ≡ []) × (¬ IsRunning self.now.known.seen) }
         ensures finished { IsDraining self.now.known.seen → batch self.now.known.seen ≡ [] → ¬ IsRunning self.now.known.seen → IsTrue result }
     {
@@ -280,7 +281,8 @@ impl<V: Drop> ValuePair<V> {
         ensures next { next_of self.old.known.seen ≡ Some result.0 }
         ensures seen { Sees (Begin result.0 ∷ []) 0 (pair_owner self.old.known) (pair_owner self.new.known) }
         ensures unqueued { accepted (own owner_seat self.new.known.seen) ≡ accepted (own owner_seat self.old.known.seen) }
-        ensures executions { (begun self.new.known.seen ≡ begun self.old.known.seen ++ result.0 ∷ []) × (ended self.new.known.seen ≡ ended self.old.known.seen) }
+        ensures executions { (begun self.new.known.seen ≡ begun self.old.known.seen ++ result.0 ∷ [])
+            × (ended self.new.known.seen ≡ ended self.old.known.seen) }
         ensures learnt { Learnt (owner_of self.old) (owner_of self.new) }
         ensures handed { handed_in (owner_of self.new) ≡ handed_in (owner_of self.old) ++ result.1 ∷ [] }
         ensures batch { batch self.old.known.seen ≡ result.0 ∷ batch self.new.known.seen }
@@ -302,7 +304,8 @@ impl<V: Drop> ValuePair<V> {
         requires runs { IsRunning self.old.known.seen }
         ensures seen { (k : ℕ) → running self.old.known.seen ≡ Some k → Sees (End k ∷ []) 0 (pair_owner self.old.known) (pair_owner self.new.known) }
         ensures unqueued { accepted (own owner_seat self.new.known.seen) ≡ accepted (own owner_seat self.old.known.seen) }
-        ensures executions { (begun self.new.known.seen ≡ begun self.old.known.seen) × ((k : ℕ) → running self.old.known.seen ≡ Some k → ended self.new.known.seen ≡ ended self.old.known.seen ++ k ∷ []) }
+        ensures executions { (begun self.new.known.seen ≡ begun self.old.known.seen)
+            × ((k : ℕ) → running self.old.known.seen ≡ Some k → ended self.new.known.seen ≡ ended self.old.known.seen ++ k ∷ []) }
         ensures learnt { Learnt (owner_of self.old) (owner_of self.new) }
         ensures handed { handed_in (owner_of self.new) ≡ handed_in (owner_of self.old) }
         ensures batch { batch self.new.known.seen ≡ batch self.old.known.seen }

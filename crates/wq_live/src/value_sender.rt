@@ -1,5 +1,5 @@
 //! A sender of a queue whose items bring values.
-ghost use Rattle.std.specs.Prelude.{◌≡◌, ◌≢◌, ℕ, ◌<◌, ◌≤◌, not, [], IsTrue};
+ghost use Rattle.std.specs.Prelude.{◌≡◌, ◌≢◌, ◌<◌, ◌≤◌, not, [], IsTrue};
 ghost use mathlib.Core.List.{IsPrefix};
 ghost use Rattle.wq_words.specs.History.{pending, accepted, ended};
 ghost use Rattle.wq_words.specs.Numbers.{barrier_number, stop_number, number_count};
@@ -163,7 +163,8 @@ impl<V: Drop> ValueSender<V> {
         requires item { item < self.old.known.layout.items }
         ensures seen { Sees [] 0 self.old.known self.new.known }
         ensures learnt { Learnt self.old self.new }
-        ensures own_values { own_brought self.old.known.number self.new.known.seen self.new.brought ≡ own_brought self.old.known.number self.old.known.seen self.old.brought }
+        ensures own_values { own_brought self.old.known.number self.new.known.seen self.new.brought
+            ≡ own_brought self.old.known.number self.old.known.seen self.old.brought }
         ensures pending { result ≡ pending self.new.known.seen item }
         ensures same { IsSame self.old.known self.new.known }
     {
@@ -189,7 +190,8 @@ impl<V: Drop> ValueSender<V> {
         requires barrier { barrier < self.old.known.layout.barriers }
         ensures seen { Sees [] 0 self.old.known self.new.known }
         ensures learnt { Learnt self.old self.new }
-        ensures own_values { own_brought self.old.known.number self.new.known.seen self.new.brought ≡ own_brought self.old.known.number self.old.known.seen self.old.brought }
+        ensures own_values { own_brought self.old.known.number self.new.known.seen self.new.brought
+            ≡ own_brought self.old.known.number self.old.known.seen self.old.brought }
         ensures clear { result ≡ not (pending self.new.known.seen (barrier_number self.old.known.layout barrier)) }
         ensures flushed { IsTrue result → HasFlushed (barrier_number self.old.known.layout barrier) self.new.known.seen }
     {
@@ -211,7 +213,7 @@ impl<V: Drop> ValueSender<V> {
         ensures same { IsSame self.old.known self.new.known }
         ensures settled { result ≢ Contended }
         ensures flushed { (first wakes : _) → result ≡ Queued first wakes → HasFlushed (barrier_number self.old.known.layout barrier) self.new.known.seen }
-        ensures all { (first wakes : _) → result ≡ Queued first wakes → IsPrefix (accepted self.old.known.seen) (ended self.new.known.seen) }
+        ensures ended { (first wakes : _) → result ≡ Queued first wakes → IsPrefix (accepted self.old.known.seen) (ended self.new.known.seen) }
     {
         let number = self.sent.layout.barrier(barrier);
         match self.queue_waiting(rt, number) {
@@ -247,13 +249,16 @@ impl<V: Drop> ValueSender<V> {
         requires { self.old.known.queue ≡ other.old.known.queue }
         ensures this { Sees [] 0 self.old.known self.new.known }
         ensures that { Sees [] 0 other.old.known other.new.known }
-        ensures own { (own self.old.known.number self.new.known.seen ≡ own self.old.known.number self.old.known.seen) × (own other.old.known.number other.new.known.seen ≡ own other.old.known.number other.old.known.seen) }
+        ensures own { (own self.old.known.number self.new.known.seen ≡ own self.old.known.number self.old.known.seen)
+            × (own other.old.known.number other.new.known.seen ≡ own other.old.known.number other.old.known.seen) }
         ensures both { other.new.known.seen ≡ self.new.known.seen }
         ensures brought { other.new.brought ≡ self.new.brought }
         ensures learnt { Learnt self.old self.new }
         ensures theirs { Learnt other.old other.new }
-        ensures own_values { (own_brought self.old.known.number self.new.known.seen self.new.brought ≡ own_brought self.old.known.number self.old.known.seen self.old.brought)
-            × (own_brought other.old.known.number other.new.known.seen other.new.brought ≡ own_brought other.old.known.number other.old.known.seen other.old.brought) }
+        ensures own_values { (own_brought self.old.known.number self.new.known.seen self.new.brought
+            ≡ own_brought self.old.known.number self.old.known.seen self.old.brought)
+            × (own_brought other.old.known.number other.new.known.seen other.new.brought
+            ≡ own_brought other.old.known.number other.old.known.seen other.old.brought) }
         ensures layout { other.old.known.layout ≡ self.old.known.layout }
     {
         self.chair.meet(&mut other.chair);
@@ -264,14 +269,17 @@ impl<V: Drop> ValueSender<V> {
         requires { self.old.known.queue ≡ owner.old.known.queue }
         ensures this { Sees [] 0 self.old.known self.new.known }
         ensures that { Sees [] 0 owner.old.known owner.new.known }
-        ensures own { (own self.old.known.number self.new.known.seen ≡ own self.old.known.number self.old.known.seen) × (own owner.old.known.number owner.new.known.seen ≡ own owner.old.known.number owner.old.known.seen) }
+        ensures own { (own self.old.known.number self.new.known.seen ≡ own self.old.known.number self.old.known.seen)
+            × (own owner.old.known.number owner.new.known.seen ≡ own owner.old.known.number owner.old.known.seen) }
         ensures owned { IsStillOwned owner.old.known.seen owner.new.known.seen }
         ensures both { owner.new.known.seen ≡ self.new.known.seen }
         ensures brought { owner.new.brought ≡ self.new.brought }
         ensures learnt { Learnt self.old self.new }
         ensures theirs { Learnt owner.old owner.new }
-        ensures own_values { (own_brought self.old.known.number self.new.known.seen self.new.brought ≡ own_brought self.old.known.number self.old.known.seen self.old.brought)
-            × (own_brought owner.old.known.number owner.new.known.seen owner.new.brought ≡ own_brought owner.old.known.number owner.old.known.seen owner.old.brought) }
+        ensures own_values { (own_brought self.old.known.number self.new.known.seen self.new.brought
+            ≡ own_brought self.old.known.number self.old.known.seen self.old.brought)
+            × (own_brought owner.old.known.number owner.new.known.seen owner.new.brought
+            ≡ own_brought owner.old.known.number owner.old.known.seen owner.old.brought) }
         ensures layout { owner.old.known.layout ≡ self.old.known.layout }
         ensures number { self.old.known.number < self.old.known.layout.senders }
         ensures seat { owner.old.known.number ≡ owner_seat }
@@ -290,16 +298,20 @@ impl<V: Drop> ValueSender<V> {
         ensures this { Sees [] 0 self.old.known self.new.known }
         ensures that { Sees [] 0 other.old.known other.new.known }
         ensures owners { Sees [] 0 owner.old.known owner.new.known }
-        ensures own { (own self.old.known.number self.new.known.seen ≡ own self.old.known.number self.old.known.seen) × (own other.old.known.number other.new.known.seen ≡ own other.old.known.number other.old.known.seen)
+        ensures own { (own self.old.known.number self.new.known.seen ≡ own self.old.known.number self.old.known.seen)
+            × (own other.old.known.number other.new.known.seen ≡ own other.old.known.number other.old.known.seen)
             × (own owner.old.known.number owner.new.known.seen ≡ own owner.old.known.number owner.old.known.seen) }
         ensures owned { IsStillOwned owner.old.known.seen owner.new.known.seen }
         ensures all { (other.new.known.seen ≡ self.new.known.seen) × (owner.new.known.seen ≡ self.new.known.seen) }
         ensures brought { (other.new.brought ≡ self.new.brought) × (owner.new.brought ≡ self.new.brought) }
         ensures learnt { Learnt self.old self.new }
         ensures theirs { Learnt other.old other.new × Learnt owner.old owner.new }
-        ensures own_values { (own_brought self.old.known.number self.new.known.seen self.new.brought ≡ own_brought self.old.known.number self.old.known.seen self.old.brought)
-            × (own_brought other.old.known.number other.new.known.seen other.new.brought ≡ own_brought other.old.known.number other.old.known.seen other.old.brought)
-            × (own_brought owner.old.known.number owner.new.known.seen owner.new.brought ≡ own_brought owner.old.known.number owner.old.known.seen owner.old.brought) }
+        ensures own_values { (own_brought self.old.known.number self.new.known.seen self.new.brought
+            ≡ own_brought self.old.known.number self.old.known.seen self.old.brought)
+            × (own_brought other.old.known.number other.new.known.seen other.new.brought
+            ≡ own_brought other.old.known.number other.old.known.seen other.old.brought)
+            × (own_brought owner.old.known.number owner.new.known.seen owner.new.brought
+            ≡ own_brought owner.old.known.number owner.old.known.seen owner.old.brought) }
         ensures layout { (other.old.known.layout ≡ self.old.known.layout) × (owner.old.known.layout ≡ self.old.known.layout) }
         ensures handed { handed_in owner.new ≡ handed_in owner.old }
         ensures end { IsComplete owner.old.known.seen → owner.new.brought ≡ owner.old.brought }

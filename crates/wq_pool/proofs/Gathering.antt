@@ -9,7 +9,7 @@ use Rattle.wq_turn.proofs.Draining.{left_complete}
 use Rattle.wq_pool.proofs.Common.{◌≡◌, ℕ, zero, suc, ◌+◌, ◌<◌, List, [], ◌∷◌, ◌++◌, map, length, take, Some, None, All, Option, sym, refl, ap}
 use Rattle.wq_pool.proofs.Common.{◌∙◌, subst, arith, length-append, map-append, All-push, IsComplete, WorkerId, IsDrained, SlotsState, TurnState, turn_id}
 use Rattle.wq_pool.proofs.Common.{WorkerState, AreFirst, AreComplete, LeavesOf, FirstLeft, AreFinishedBy, RanToEndBy, IsWorkerAt}
-use Rattle.wq_pool.proofs.Common.{inl, inr, WasDrainedAt, WereDrained, FirstWereDrained, ComeFromDrains, AreTakenApart, ArePartsOf, HasEndedAt, IsLeftTo}
+use Rattle.wq_pool.proofs.Common.{inl, inr, WasDrainedAt, WereDrained, FirstWereDrained, ComeFromDrains, AreTakenApart, ArePartsOf, HasEndedAt}
 use Rattle.wq_pool.proofs.Common.{GoesOnAt, BeginAsHandedIn}
 use mathlib.Core.List.{IsPrefix}
 use Rattle.wq_words.specs.declared.event.Event.{Event}

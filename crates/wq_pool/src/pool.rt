@@ -1,5 +1,5 @@
 //! A pool.
-ghost use Rattle.std.specs.Prelude.{◌≡◌, ◌↔◌, ◌<◌, ◌≤◌, Ok, Err, true, false, map, length, option_map, All, IfOk, IfErr, IfSome};
+ghost use Rattle.std.specs.Prelude.{◌≡◌, ◌↔◌, ◌<◌, ◌≤◌, Ok, Err, true, false, map, length, option_map, All, IfOk, IfSome};
 ghost use Rattle.wq_words.specs.History.{IsRunning};
 ghost use Rattle.wq_ready.specs.declared.ready_queue.AnnounceError.TheVariants as announce_error;
 ghost use Rattle.wq_ready.specs.Answers.{Announces, Picks};

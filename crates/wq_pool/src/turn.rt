@@ -1,5 +1,5 @@
 //! A queue in hand.
-ghost use Rattle.std.specs.Prelude.{◌≡◌, ◌<◌, false, MatchResult};
+ghost use Rattle.std.specs.Prelude.{◌≡◌, ◌<◌, MatchResult};
 ghost use Rattle.wq_words.specs.History.{IsRunning, IsDraining};
 ghost use Rattle.wq_words.specs.Legal.{IsLegal, IsComplete};
 ghost use Rattle.wq_words.specs.Headline.{KeepsHeadline};

@@ -1,5 +1,5 @@
 -- Counts of histories.
-use Rattle.wq_pool_plan.proofs.Common.{◌≡◌, ℕ, ◌+◌, ◌*◌, ◌≤◌, Bool, List, [], ◌∷◌, length, ap, ◌∙◌, arith, length-append, count_by, IsPrefix, Event}
+use Rattle.wq_pool_plan.proofs.Common.{◌≡◌, ℕ, ◌+◌, ◌*◌, ◌≤◌, Bool, List, [], ◌∷◌, length, ap, arith, length-append, count_by, IsPrefix, Event}
 use Rattle.wq_pool_plan.proofs.Common.{capped, SendsAll, SendsOne, pushed, busy, refused, count_by-append}
 
 -- the queueing of a number adds at most two events

@@ -1,6 +1,5 @@
 //! What a race over a pool did, and whether its books balance.
-ghost use Rattle.std.specs.Prelude.{◌≡◌, ℕ, ◌+◌, ◌^◌, ◌<◌, ◌≤◌, List, length, All, IfOk};
-ghost use Rattle.wq_live.specs.Known.{Known};
+ghost use Rattle.std.specs.Prelude.{◌≡◌, ◌+◌, ◌^◌, ◌<◌, ◌≤◌, List, length, All, IfOk};
 ghost use Rattle.wq_turn.specs.declared.worker_id.WorkerId.{WorkerId};
 ghost use Rattle.wq_turn.specs.Finished.{IsFinished};
 ghost use Rattle.wq_pool.specs.Finished.{AreFinished};

@@ -1,5 +1,5 @@
 //! What the threads of the senders do.
-ghost use Rattle.std.specs.Prelude.{◌≡◌, ℕ, ◌+◌, ◌*◌, ◌<◌, ◌≤◌, [], ◌∷◌, length};
+ghost use Rattle.std.specs.Prelude.{◌+◌, ◌*◌, ◌<◌, ◌≤◌, [], ◌∷◌, length};
 ghost use Rattle.wq_ready.specs.Known.{IsCallerOf};
 ghost use Rattle.wq_plan.specs.Race.{items_at, HasQueued, AllQueued};
 ghost use Rattle.wq_pool_plan.specs.Race.{IsGroupFor, AllStopped};

@@ -1,6 +1,5 @@
 //! The seats of a plan's queues.
-ghost use Rattle.std.specs.Prelude.{◌≡◌, ℕ, ◌+◌, ◌<◌, [], length, All, OnOk, IfOk};
-ghost use Rattle.wq_words.specs.History.{IsRunning};
+ghost use Rattle.std.specs.Prelude.{◌≡◌, ◌+◌, ◌<◌, [], length, All, OnOk, IfOk};
 ghost use Rattle.wq_plan.specs.Team.{IsNewTeam};
 ghost use Rattle.wq_pool_plan.specs.Teams.{AreDealt, AreTurned, AreTeams};
 

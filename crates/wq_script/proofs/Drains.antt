@@ -2,7 +2,7 @@
 use Rattle.wq_script.proofs.Common.{◌≡◌, ℕ, ◌+◌, ◌*◌, ◌<◌, ◌≤◌, ◌==◌, ◌&&◌, Bool, true, false, not, suc, List, [], ◌∷◌, ◌++◌, length, refl, sym, ap, ◌∙◌, subst, arith}
 use Rattle.wq_script.proofs.Common.{if◌then◌else◌, append_assoc, append-nil, filter, eq-eqb, ne_eqb, eqb-true, drop, drop_of_length-le, None, slice_get_past, Layout, Event}
 use Rattle.wq_script.proofs.Common.{Drain, Resume, accepted, begun, ended, shut, draining, IsRunning, IsLegal, prefix_length, begun-append, ended-append, is_ours}
-use Rattle.wq_script.proofs.Common.{WorkerState, Moves, follow_of, after_executions, ended_since, ends_at, left_in, begin_drain, end_drain, ScriptState}
+use Rattle.wq_script.proofs.Common.{WorkerState, Moves, follow_of, ended_since, ends_at, left_in, begin_drain, end_drain, ScriptState}
 use Rattle.wq_script.proofs.Common.{after_row, after_drain, executions_few, Lists, Seats, Tally, Gathers, Seated, Quiet, Reaches, RunsAs, Tallied, Meets}
 use Rattle.wq_words.specs.Legal.{HasRunOut}
 use Rattle.wq_words.proofs.Closed.{shut_from_IsShut, shut_from_open, closed_from_IsClosed}

@@ -3,7 +3,7 @@ use Rattle.std.proofs.lemmas.List.Sums.{count_by-le-length}
 use Rattle.wq_script.proofs.Common.{◌≡◌, ℕ, ◌+◌, ◌≤◌, ◌^◌, List, length, ap, ◌∙◌, arith, count_by, Event, accepted, begun, ended, is_push, prefix_length}
 use Rattle.wq_script.proofs.Common.{owner_seat, is_queued_by, is_pending_by, is_closed_by, is_draining_by, is_chain, is_chain_busy, is_busy, is_refusal}
 use Rattle.wq_script.proofs.Common.{accepted-count, Engine}
-use Rattle.wq_script.proofs.Common.{Tally, HasStateWithin, ◌==◌, false, refl, Back, seat_of}
+use Rattle.wq_script.proofs.Common.{Tally, HasStateWithin}
 use Rattle.wq_words.proofs.Seen.{count_same, ended_same}
 use Rattle.wq_words.proofs.Order.{in_order}
 use Rattle.wq_ledger.specs.declared.totals.Totals.{Totals}

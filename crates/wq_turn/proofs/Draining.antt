@@ -1,7 +1,7 @@
 -- What a closing and a drain leave.
 use Rattle.std.proofs.lemmas.List.{append-nil}
 use Rattle.wq_words.specs.History.{is_close}
-use Rattle.wq_words.specs.Seen.{owner_seat, own}
+use Rattle.wq_words.specs.Seen.{owner_seat}
 use Rattle.wq_words.proofs.Legal.{legal_next}
 use Rattle.wq_words.proofs.OtherSeats.{surrounds}
 use Rattle.wq_words.proofs.Appended.{count_by-append}

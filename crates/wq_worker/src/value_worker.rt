@@ -242,7 +242,7 @@ impl<V: Drop, W: ValueWork<V>> ValueWorker<V, W> {
         ensures closed { IsClosed self.old.worker.seen → IsClosed self.new.worker.seen }
         ensures shut { IsShut self.old.worker.seen → IsShut self.new.worker.seen }
         ensures given { IsPrefix (W.given self.old.worker.work) (W.given self.new.worker.work) }
-        ensures log { IsPrefix (W.log self.old.worker.work) (W.log self.new.worker.work) }
+        ensures log_grows { IsPrefix (W.log self.old.worker.work) (W.log self.new.worker.work) }
         ensures same { IsSameWorker self.old.worker self.new.worker }
         ensures legal { IsLegal self.new.worker.layout self.new.worker.seen }
     {
@@ -299,7 +299,7 @@ impl<V: Drop, W: ValueWork<V>> ValueWorker<V, W> {
         ensures unclosed { ¬ IsClosed self.old.worker.seen → ¬ IsClosed self.new.worker.seen }
         ensures closed { IsClosed self.old.worker.seen → IsClosed self.new.worker.seen }
         ensures shut { IsShut self.old.worker.seen → IsShut self.new.worker.seen }
-        ensures log { IsPrefix (W.log self.old.worker.work) (W.log self.new.worker.work) }
+        ensures log_grows { IsPrefix (W.log self.old.worker.work) (W.log self.new.worker.work) }
         ensures same { IsSameWorker self.old.worker self.new.worker }
         ensures legal { IsLegal self.new.worker.layout self.new.worker.seen }
     {
@@ -392,7 +392,7 @@ impl<V: Drop, W: ValueWork<V>> ValueWorker<V, W> {
         ensures ended { result ≡ Empty → IsPrefix (accepted self.old.worker.seen) (ended self.new.worker.seen) }
         ensures complete { result ≡ Empty → IsClosed self.old.worker.seen → IsComplete self.new.worker.seen }
         ensures unclosed { ¬ IsClosed self.old.worker.seen → ¬ IsClosed self.new.worker.seen }
-        ensures log { IsPrefix (W.log self.old.worker.work) (W.log self.new.worker.work) }
+        ensures log_grows { IsPrefix (W.log self.old.worker.work) (W.log self.new.worker.work) }
         ensures same { IsSameWorker self.old.worker self.new.worker }
         ensures legal { IsLegal self.new.worker.layout self.new.worker.seen }
     {
@@ -413,7 +413,7 @@ impl<V: Drop, W: ValueWork<V>> ValueWorker<V, W> {
         ensures open { ¬ IsShut self.new.worker.seen }
         ensures unclosed { ¬ IsClosed self.new.worker.seen }
         ensures idle { ¬ IsRunning self.new.worker.seen }
-        ensures log { IsPrefix (W.log self.old.worker.work) (W.log self.new.worker.work) }
+        ensures log_grows { IsPrefix (W.log self.old.worker.work) (W.log self.new.worker.work) }
         ensures same { IsSameWorker self.old.worker self.new.worker }
         ensures legal { IsLegal self.new.worker.layout self.new.worker.seen }
     {

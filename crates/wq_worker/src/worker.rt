@@ -212,7 +212,7 @@ impl<W: Work> Worker<W> {
         ensures unclosed { ¬ IsClosed self.old.seen → ¬ IsClosed self.new.seen }
         ensures closed { IsClosed self.old.seen → IsClosed self.new.seen }
         ensures shut { IsShut self.old.seen → IsShut self.new.seen }
-        ensures log { IsPrefix (W.log self.old.work) (W.log self.new.work) }
+        ensures log_grows { IsPrefix (W.log self.old.work) (W.log self.new.work) }
         ensures same { IsSameWorker self.old self.new }
         ensures legal { IsLegal self.new.layout self.new.seen }
     {
@@ -272,7 +272,7 @@ impl<W: Work> Worker<W> {
         ensures unclosed { ¬ IsClosed self.old.seen → ¬ IsClosed self.new.seen }
         ensures closed { IsClosed self.old.seen → IsClosed self.new.seen }
         ensures shut { IsShut self.old.seen → IsShut self.new.seen }
-        ensures log { IsPrefix (W.log self.old.work) (W.log self.new.work) }
+        ensures log_grows { IsPrefix (W.log self.old.work) (W.log self.new.work) }
         ensures same { IsSameWorker self.old self.new }
         ensures legal { IsLegal self.new.layout self.new.seen }
     {
@@ -359,7 +359,7 @@ impl<W: Work> Worker<W> {
         ensures ended { result ≡ Empty → IsPrefix (accepted self.old.seen) (ended self.new.seen) }
         ensures complete { result ≡ Empty → IsClosed self.old.seen → IsComplete self.new.seen }
         ensures unclosed { ¬ IsClosed self.old.seen → ¬ IsClosed self.new.seen }
-        ensures log { IsPrefix (W.log self.old.work) (W.log self.new.work) }
+        ensures log_grows { IsPrefix (W.log self.old.work) (W.log self.new.work) }
         ensures same { IsSameWorker self.old self.new }
         ensures legal { IsLegal self.new.layout self.new.seen }
     {
@@ -378,7 +378,7 @@ impl<W: Work> Worker<W> {
         ensures open { ¬ IsShut self.new.seen }
         ensures unclosed { ¬ IsClosed self.new.seen }
         ensures idle { ¬ IsRunning self.new.seen }
-        ensures log { IsPrefix (W.log self.old.work) (W.log self.new.work) }
+        ensures log_grows { IsPrefix (W.log self.old.work) (W.log self.new.work) }
         ensures same { IsSameWorker self.old self.new }
         ensures legal { IsLegal self.new.layout self.new.seen }
     {

@@ -1,5 +1,4 @@
 //! An owner that executes in this thread, what senders queue in threads of their own or one sender in turn with it.
-ghost use Rattle.std.specs.Prelude.{IsTrue};
 ghost use Rattle.wq_words.specs.History.{IsRunning};
 
 use crate::host::Host;

@@ -1,7 +1,6 @@
 //! Queues for a pool, and the callers of it.
-ghost use Rattle.std.specs.Prelude.{◌≡◌, [], All, map};
+ghost use Rattle.std.specs.Prelude.{◌≡◌, [], All};
 ghost use Rattle.wq_ready.specs.Known.{IsCallerOf};
-ghost use Rattle.wq_turn.specs.WorkerId.{worker_id};
 
 use arrayvec::ArrayVec;
 use std::alloc::Global;

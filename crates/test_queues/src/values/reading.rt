@@ -1,6 +1,6 @@
 //! What the owner of a queue whose items bring values may do next, what it does then, and what a queueing answered.
 ghost use Rattle.std.specs.Prelude.{◌≡◌, ◌≢◌, [], IfSome, IsTrue};
-ghost use Rattle.wq_words.specs.History.{IsClosed, IsShut, IsDraining, IsRunning};
+ghost use Rattle.wq_words.specs.History.{IsShut, IsRunning};
 ghost use Rattle.wq_live.specs.Batch.{batch};
 
 use std::alloc::Global;

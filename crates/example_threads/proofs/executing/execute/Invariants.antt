@@ -1,4 +1,4 @@
-use Rattle.std.specs.Prelude.{◌≡◌, []}
+use Rattle.std.specs.Prelude.{◌≡◌}
 use Rattle.wq_words.specs.History.{accepted, IsRunning, IsClosed, IsShut}
 use Rattle.wq_words.specs.Seen.{own}
 use Rattle.wq_live.specs.Known.{IsSame}

@@ -1,4 +1,4 @@
-use Rattle.wq_live.proofs.Common.{◌≡◌, ℕ, List, [], map, refl, sym, ap, ◌∙◌, subst, Holds, new_senders, ValueStanding, KnownWith}
+use Rattle.wq_live.proofs.Common.{◌≡◌, ℕ, [], map, refl, sym, ap, ◌∙◌, subst, Holds, new_senders, ValueStanding, KnownWith}
 use Rattle.wq_live.specs.Known.{AreNumbered}
 use Rattle.wq_live.proofs.Built.{values_new, all_values, length_values, values_known}
 use Rattle.wq_live.proofs.Seated.{free_new, numbered_new}

@@ -1,7 +1,7 @@
 use Rattle.wq_worker.specs.Rows.{Along}
 use Rattle.wq_turn.specs.Drained.{ClosesAndWorks}
 use Rattle.wq_turn.specs.Steps.{EndsJust}
-use Rattle.wq_pool.proofs.Common.{◌≡◌, ℕ, ◌<◌, [], length, slice_get, Some, sym, ap, ◌∙◌, subst, arith, rules, IsDrained, TurnState, turn_id, FirstLeft}
+use Rattle.wq_pool.proofs.Common.{◌≡◌, ℕ, length, slice_get, Some, sym, ap, ◌∙◌, subst, arith, rules, IsDrained, TurnState, turn_id, FirstLeft}
 use Rattle.wq_pool.proofs.Common.{IsWorkerAt, WasDrainedAt, GoesOnAt}
 use Rattle.wq_pool.proofs.GoingOn.{goes_on_at}
 use Rattle.wq_pool.proofs.Gathering.{first_more, left_more, drained_more}

@@ -2,7 +2,7 @@ use Rattle.std.proofs.lemmas.Iterator.Adapters.{YieldsList-from_vec}
 use Rattle.std.proofs.lemmas.Iterator.Consumers.{YieldsList-turn, YieldsList-end}
 use Rattle.wq_pool.proofs.Common.{List, [], ◌∷◌, map, length, sym, ◌∙◌, subst, arith, length-append, map-id, IsComplete, TurnState, turn_id}
 use Rattle.wq_pool.proofs.Common.{AreFinishedBy, AreTakenApart}
-use Rattle.wq_pool.proofs.Gathering.{finished_next, parts_next, parts_none}
+use Rattle.wq_pool.proofs.Gathering.{finished_next, parts_next}
 use Rattle.wq_pool.proofs.finish.take_apart.Goals as goal
 
 pub into_parts-requires : goal.into_parts-requires

@@ -34,8 +34,8 @@ pub returns-clause-on : goal.returns-clause-on
 returns-clause-on c = let i = c.self.inside in
     λ is. placed_on (record { due = c.in-Some.due; arming = i.next; item = c.args.item }) i.table.entries c.put.new.self.entries c.put.ensures.put
 
-pub returns-clause-others : goal.returns-clause-others
-returns-clause-others c = let i = c.self.inside in
+pub returns-clause-other_items : goal.returns-clause-other_items
+returns-clause-other_items c = let i = c.self.inside in
     λ j apart. placed_others j (record { due = c.in-Some.due; arming = i.next; item = c.args.item }) i.table.entries c.put.new.self.entries
     c.put.ensures.put apart
     ∙ ap (λ (z : DelayState). on_table j z.table.entries) c.self.view_is

@@ -33,15 +33,15 @@ invariant_of-self-2 c =
 pub returns-then-not-take-clause-off : goal.returns-then-not-take-clause-off
 returns-then-not-take-clause-off c = without_at c.args.item c.self.inside.table.entries c.take.new.self.entries c.take.ensures.entries
 
-pub returns-then-not-take-clause-others : goal.returns-then-not-take-clause-others
-returns-then-not-take-clause-others c = let i = c.self.inside in
+pub returns-then-not-take-clause-other_items : goal.returns-then-not-take-clause-other_items
+returns-then-not-take-clause-other_items c = let i = c.self.inside in
     λ j apart. without_others j c.args.item i.table.entries c.take.new.self.entries c.take.ensures.entries apart
     ∙ ap (λ (z : DelayState). on_table j z.table.entries) c.self.view_is
 
 pub returns-clause-off : goal.returns-clause-off
 returns-clause-off c = without_at c.args.item c.self.inside.table.entries c.take.new.self.entries c.take.ensures.entries
 
-pub returns-clause-others : goal.returns-clause-others
-returns-clause-others c = let i = c.self.inside in
+pub returns-clause-other_items : goal.returns-clause-other_items
+returns-clause-other_items c = let i = c.self.inside in
     λ j apart. without_others j c.args.item i.table.entries c.take.new.self.entries c.take.ensures.entries apart
     ∙ ap (λ (z : DelayState). on_table j z.table.entries) c.self.view_is

@@ -10,17 +10,17 @@ invariant_of-self c =
     (sym c.if-not-has.ensures) c.replace.ensures.placed c.self.invariant in
     (c.replace.ensures.size ∙ sound.0, fit_at i.sender c.replace.new.self.entries i.table.tick c.replace.new.self.tick (i.next + 1) sound.1)
 
-pub returns-clause-moved : goal.returns-clause-moved
-returns-clause-moved c = let i = c.self.inside in
+pub returns-clause-still_on : goal.returns-clause-still_on
+returns-clause-still_on c = let i = c.self.inside in
     λ is late. placed_on (record { due = c.in-Some.due; arming = i.next; item = c.args.item }) (without c.args.item i.table.entries)
     c.replace.new.self.entries c.replace.ensures.placed
 
-pub returns-clause-others : goal.returns-clause-others
-returns-clause-others c = let i = c.self.inside in let k = c.args.item in
+pub returns-clause-other_items : goal.returns-clause-other_items
+returns-clause-other_items c = let i = c.self.inside in let k = c.args.item in
     λ j apart. placed_others j (record { due = c.in-Some.due; arming = i.next; item = k }) (without k i.table.entries) c.replace.new.self.entries
     c.replace.ensures.placed apart
     ∙ (without_others j k i.table.entries (without k i.table.entries) refl apart ∙ ap (λ (z : DelayState). on_table j z.table.entries) c.self.view_is)
 
-pub returns-then-delay-eq0-clause-others : goal.returns-then-delay-eq0-clause-others
-returns-then-delay-eq0-clause-others c =
+pub returns-then-delay-eq0-clause-other_items : goal.returns-then-delay-eq0-clause-other_items
+returns-then-delay-eq0-clause-other_items c =
     λ j apart. posts_others j c.args.item c.args.tries c.post_item.result c.args.self.now c.post_item.new.self c.post_item.ensures.posts apart

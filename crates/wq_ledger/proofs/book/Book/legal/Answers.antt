@@ -15,8 +15,8 @@ pub returns-clause-headline : goal.returns-clause-headline
 returns-clause-headline c =
     let o = c.self.inside.owner in subst (λ (z : BookState). KeepsHeadline z.seen) c.self.view_is (keeps_headline o.layout o.seen c.self.invariant.legal)
 
-pub returns-clause-own : goal.returns-clause-own
-returns-clause-own c = subst (λ (z : BookState). IsLedgerOf z.seen z.own) c.self.view_is c.self.invariant.made
+pub returns-clause-own_ledger : goal.returns-clause-own_ledger
+returns-clause-own_ledger c = subst (λ (z : BookState). IsLedgerOf z.seen z.own) c.self.view_is c.self.invariant.made
 
 pub returns-clause-all_began : goal.returns-clause-all_began
 returns-clause-all_began c =

@@ -17,8 +17,8 @@ returns-clause-complete g c = subst (λ (z : ValueBookState g.row.V.Denot). IsCo
 pub returns-clause-headline : goal.returns-clause-headline
 returns-clause-headline g c = subst (λ (z : ValueBookState g.row.V.Denot). KeepsHeadline z.book.seen) c.self.view_is c.legal.ensures.headline
 
-pub returns-clause-own : goal.returns-clause-own
-returns-clause-own g c = subst (λ (z : ValueBookState g.row.V.Denot). IsLedgerOf z.book.seen z.book.own) c.self.view_is c.self.invariant.made
+pub returns-clause-own_ledger : goal.returns-clause-own_ledger
+returns-clause-own_ledger g c = subst (λ (z : ValueBookState g.row.V.Denot). IsLedgerOf z.book.seen z.book.own) c.self.view_is c.self.invariant.made
 
 pub returns-clause-all_began : goal.returns-clause-all_began
 returns-clause-all_began g c =

@@ -28,8 +28,8 @@ returns-then-flush_done-clause-keeps g c = λ k. let s = c.args.self.now in
     queued_held k (barrier_number s.layout c.args.barrier) 0 (Queued c.in-Queued.first c.in-Queued.wakes) s c.flush_done.new.self
     (returns-then-flush_done-clause-answer g c)
 
-pub returns-then-flush_done-clause-all : goal.returns-then-flush_done-clause-all
-returns-then-flush_done-clause-all g c first wakes is = let told = returns-then-flush_done-clause-answer g c in let s = c.args.self.now in
+pub returns-then-flush_done-clause-ended : goal.returns-then-flush_done-clause-ended
+returns-then-flush_done-clause-ended g c first wakes is = let told = returns-then-flush_done-clause-answer g c in let s = c.args.self.now in
     flushed_all (barrier_number s.layout c.args.barrier) 0 c.in-Queued.first c.in-Queued.wakes s c.flush_done.new.self told.0 told.1
     (subst (λ (l : Layout). HasFlushed (barrier_number l c.args.barrier) c.flush_done.new.self.seen)
     (c.loop.invariant.2.same.layout_is ∙ c.in-Queued.ensures.answer.0.same.layout_is) (c.flush_done.ensures.flushed c.if-flush_done.true))

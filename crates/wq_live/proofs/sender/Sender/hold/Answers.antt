@@ -13,8 +13,8 @@ pub returns-clause-unheld : goal.returns-clause-unheld
 returns-clause-unheld c = λ k ne none.
     tested_unheld k c.args.item c.hold_number.result c.args.self.now c.hold_number.new.self c.hold_number.ensures.seen ne none
 
-pub returns-clause-refused : goal.returns-clause-refused
-returns-clause-refused c is = λ k.
+pub returns-clause-still_unheld : goal.returns-clause-still_unheld
+returns-clause-still_unheld c is = λ k.
     hold_refused k c.args.item c.hold_number.result c.args.self.now c.hold_number.new.self c.hold_number.ensures.seen is
 
 pub returns-clause-unqueued : goal.returns-clause-unqueued

@@ -61,4 +61,8 @@ pub returns-clause-owned : goal.returns-clause-owned
 returns-clause-owned c = still_owned 0 c.args.owner.now _ (sym (ap (λ (v : Known). v.number) c.owner.view_is)) (returns-clause-owners c)
 
 pub returns-clause-own : goal.returns-clause-own
-returns-clause-own c = (own_kept 0 c.args.self.now _ (returns-clause-this c), own_kept 0 c.args.other.now _ (returns-clause-that c), own_kept 0 c.args.owner.now _ (returns-clause-owners c))
+returns-clause-own c = (
+  own_kept 0 c.args.self.now _ (returns-clause-this c),
+  own_kept 0 c.args.other.now _ (returns-clause-that c),
+  own_kept 0 c.args.owner.now _ (returns-clause-owners c),
+)

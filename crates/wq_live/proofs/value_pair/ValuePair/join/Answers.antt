@@ -32,4 +32,6 @@ returns-clause-learnt g c = let o = c.owner in let s = c.sender in (
 )
 
 pub returns-clause-owned : goal.returns-clause-owned
-returns-clause-owned g c = still_owned 0 c.args.owner.known _ (sym (ap (λ (v : KnownWith g.row.V.Denot). v.known.number) c.owner.view_is)) (returns-clause-owner g c)
+returns-clause-owned g c =
+    let mine = sym (ap (λ (v : KnownWith g.row.V.Denot). v.known.number) c.owner.view_is) in
+    still_owned 0 c.args.owner.known _ mine (returns-clause-owner g c)

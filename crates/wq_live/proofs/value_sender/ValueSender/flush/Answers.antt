@@ -39,8 +39,8 @@ returns-then-flush_done-clause-nothing g c =
     (sees_on (λ z. []) (λ z. []) 0 0 0 q.known l.known t.known (omega arith) c.loop.invariant.sees c.flush_done.ensures.seen)
     (learnt_on q l t c.loop.invariant.learnt c.flush_done.ensures.learnt)
 
-pub returns-then-flush_done-clause-all : goal.returns-then-flush_done-clause-all
-returns-then-flush_done-clause-all g c first wakes is = let told = returns-then-flush_done-clause-answer g c in let s = c.args.self.now.known in
+pub returns-then-flush_done-clause-ended : goal.returns-then-flush_done-clause-ended
+returns-then-flush_done-clause-ended g c first wakes is = let told = returns-then-flush_done-clause-answer g c in let s = c.args.self.now.known in
     let t = c.flush_done.new.self.known in
     flushed_all (barrier_number s.layout c.args.barrier) 0 c.in-Queued.first c.in-Queued.wakes s t told.0 told.1
     (subst (λ (l : Layout). HasFlushed (barrier_number l c.args.barrier) t.seen)

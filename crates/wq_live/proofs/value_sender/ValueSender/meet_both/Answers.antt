@@ -78,4 +78,8 @@ returns-clause-own_values g c = (
 )
 
 pub returns-clause-own : goal.returns-clause-own
-returns-clause-own g c = (own_kept 0 c.args.self.now.known _ (returns-clause-this g c), own_kept 0 c.args.other.now.known _ (returns-clause-that g c), own_kept 0 c.args.owner.now.known _ (returns-clause-owners g c))
+returns-clause-own g c = (
+  own_kept 0 c.args.self.now.known _ (returns-clause-this g c),
+  own_kept 0 c.args.other.now.known _ (returns-clause-that g c),
+  own_kept 0 c.args.owner.now.known _ (returns-clause-owners g c),
+)

@@ -1,5 +1,5 @@
-use Rattle.wq_script.proofs.Common.{◌∙◌, ◌++◌, ◌≤◌, ap, refl, arith, string_bytes, subst, codes, append_assoc, line, row_text, left_text, Layout, ended_since}
-use Rattle.wq_script.proofs.Common.{ScriptState, after_drain, Meets, size}
+use Rattle.wq_script.proofs.Common.{◌∙◌, ◌++◌, ◌≤◌, ap, arith, string_bytes, codes, append_assoc, line, row_text, left_text, ended_since}
+use Rattle.wq_script.proofs.Common.{ScriptState, after_drain, size}
 use Rattle.wq_meaning.specs.declared.report.Counts.{Counts}
 use Rattle.wq_script.proofs.Drains.{drain_few}
 use Rattle.wq_script.proofs.engine.Engine.drain_and_resume.Goals as goal

@@ -149,19 +149,19 @@ returns-in-Some-clause-given g c =
     let w = g.W.ValueWork in let a = c.args.self.now in let b = c.finish.new.self in
     dealt_by_given w.given w.may w.takes c.finish.result a b c.finish.ensures.runs (returns-in-Some-clause-settles g c)
 
-pub returns-clause-log : goal.returns-clause-log
-returns-clause-log g c =
+pub returns-clause-log_grows : goal.returns-clause-log_grows
+returns-clause-log_grows g c =
     let w = g.W.ValueWork in let a = c.args.self.now in let b = c.finish-2.new.self in
     pairs_log a b (w.log a.worker.work) (w.log b.worker.work) c.logged.ensures.log c.finish-2.ensures.logged
     (runs_by_seen (MayLeave w.may w.takes) (GivesBack w.takes) c.finish-2.result a.worker b.worker (returns-clause-runs g c))
     (returns-clause-legal g c) (returns-clause-learnt g c)
 
-pub returns-in_default-start-clause-log : goal.returns-in_default-start-clause-log
-returns-in_default-start-clause-log g c =
+pub returns-in_default-start-clause-log_grows : goal.returns-in_default-start-clause-log_grows
+returns-in_default-start-clause-log_grows g c =
     same_more g.W.ValueWork.log c.args.self.now.worker.work c.start.new.self.worker.work c.in_default-start.ensures.outcome.1
 
-pub returns-in-Some-clause-log : goal.returns-in-Some-clause-log
-returns-in-Some-clause-log g c =
+pub returns-in-Some-clause-log_grows : goal.returns-in-Some-clause-log_grows
+returns-in-Some-clause-log_grows g c =
     let w = g.W.ValueWork in let a = c.args.self.now in let b = c.finish.new.self in
     pairs_log a b (w.log a.worker.work) (w.log b.worker.work) c.logged.ensures.log c.finish.ensures.logged
     (runs_by_seen (MayLeave w.may w.takes) (GivesBack w.takes) c.finish.result a.worker b.worker c.finish.ensures.runs)

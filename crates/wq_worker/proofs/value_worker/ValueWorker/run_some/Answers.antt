@@ -25,8 +25,8 @@ returns-clause-shut g c =
     some_shut (MayLeave w.may w.takes) (GivesBack w.takes) c.args.limit c.run_some-ended.result c.args.self.now.worker c.run_some-ended.new.station.worker
     c.run_some-ended.ensures.runs
 
-pub returns-clause-log : goal.returns-clause-log
-returns-clause-log g c =
+pub returns-clause-log_grows : goal.returns-clause-log_grows
+returns-clause-log_grows g c =
     let w = g.W.ValueWork in let a = c.args.self.now in let b = c.run_some-ended.new.station in let e = c.run_some-ended.ensures in
     pairs_log a b (w.log a.worker.work) (w.log b.worker.work) c.logged.ensures.log c.logged-2.ensures.log
     (some_seen (MayLeave w.may w.takes) (GivesBack w.takes) c.args.limit c.run_some-ended.result a.worker b.worker e.runs) e.legal (returns-clause-learnt g c)

@@ -11,8 +11,8 @@ returns-clause-learnt g c =
 pub returns-clause-given : goal.returns-clause-given
 returns-clause-given g c = let w = g.W.ValueWork in along_given w.given w.may w.takes c.args.self.now c.serve.new.station c.serve.ensures.deals
 
-pub returns-clause-log : goal.returns-clause-log
-returns-clause-log g c =
+pub returns-clause-log_grows : goal.returns-clause-log_grows
+returns-clause-log_grows g c =
     let w = g.W.ValueWork in let a = c.args.self.now in let b = c.serve.new.station in let e = c.serve.ensures in
     pairs_log a b (w.log a.worker.work) (w.log b.worker.work) c.logged.ensures.log c.logged-2.ensures.log
     (serves_seen (MayLeave w.may w.takes) (GivesBack w.takes) a.worker b.worker e.serves) e.legal (returns-clause-learnt g c)

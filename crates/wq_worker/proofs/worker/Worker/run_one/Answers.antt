@@ -88,17 +88,17 @@ pub returns-in-Some-clause-shut : goal.returns-in-Some-clause-shut
 returns-in-Some-clause-shut g c =
     runs_by_shut g.W.Work.may stays c.finish.result c.args.self.now c.finish.new.self c.finish.ensures.runs
 
-pub returns-clause-log : goal.returns-clause-log
-returns-clause-log g c =
+pub returns-clause-log_grows : goal.returns-clause-log_grows
+returns-clause-log_grows g c =
     let a = c.args.self.now in let b = c.finish-2.new.self in
     log_more a.layout b.layout a.seen b.seen (g.W.Work.log a.work) (g.W.Work.log b.work) c.logged.ensures.log c.finish-2.ensures.logged
     (returns-clause-same g c).layout_is (runs_by_seen g.W.Work.may stays c.finish-2.result a b (returns-clause-runs g c))
 
-pub returns-in_default-start-clause-log : goal.returns-in_default-start-clause-log
-returns-in_default-start-clause-log g c = same_more g.W.Work.log c.args.self.now.work c.start.new.self.work c.in_default-start.ensures.1
+pub returns-in_default-start-clause-log_grows : goal.returns-in_default-start-clause-log_grows
+returns-in_default-start-clause-log_grows g c = same_more g.W.Work.log c.args.self.now.work c.start.new.self.work c.in_default-start.ensures.1
 
-pub returns-in-Some-clause-log : goal.returns-in-Some-clause-log
-returns-in-Some-clause-log g c =
+pub returns-in-Some-clause-log_grows : goal.returns-in-Some-clause-log_grows
+returns-in-Some-clause-log_grows g c =
     let a = c.args.self.now in let b = c.finish.new.self in
     log_more a.layout b.layout a.seen b.seen (g.W.Work.log a.work) (g.W.Work.log b.work) c.logged.ensures.log c.finish.ensures.logged
     (returns-in-Some-clause-same g c).layout_is (runs_by_seen g.W.Work.may stays c.finish.result a b c.finish.ensures.runs)
