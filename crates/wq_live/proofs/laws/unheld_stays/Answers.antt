@@ -6,7 +6,7 @@ returns c = record {
   seen = seen_unheld;
   queued = queued_unheld;
   held = tested_unheld;
-  refused = refused_unheld;
+  still_unheld = refused_unheld;
   posted = posted_unheld;
   given = given_unheld;
 }
