@@ -28,12 +28,20 @@ met_still c xs n v w h less g met =
     let same : take (length seen) h ≡ seen = ap (take (length seen)) whole ∙ take_length seen (drop met.0 w ++ g.new) in
     (length seen, omega (arith, length-take met.0 w, less, met.1), subst IsDraining (sym same) met.2)
 
--- whoever was turned back met a drain within the call
-pub met_turned : (k : ℕ) (old new : Known) → IsTurnedBack k old new → HasMetDrain old.seen new.seen
-met_turned k old new turned =
-    let held = turned.held.seen in
-    let seen = turned.refused.seen in
-    let since : length old.seen ≤ length held = grows_longer old.number (Hold old.number k ∷ []) 0 old.seen held turned.holds.grows in
-    let until : length held ≤ length seen = grows_longer turned.held.number [] 0 held seen turned.looks.grows in
-    met_still turned.refused.number (Back old.number k why.Draining ∷ []) 0 old.seen seen new.seen (omega (arith, since, until)) turned.gives.grows
-    (met_since old.seen held seen since turned.met)
+-- a drain that was met between the hold and the give-back was met within the call
+pub met_between : (k : ℕ) (old held refused new : Known) → Sees (Hold old.number k ∷ []) 0 old held → Sees [] 0 held refused
+    → HasMetDrain held.seen refused.seen → Sees (Back old.number k why.Draining ∷ []) 0 refused new → IsTurnedBack k old new
+met_between k old held refused new holds looks met gives =
+    let until = refused.seen in
+    let since : length old.seen ≤ length held.seen = grows_longer old.number (Hold old.number k ∷ []) 0 old.seen held.seen holds.grows in
+    let looked : length held.seen ≤ length until = grows_longer held.number [] 0 held.seen until looks.grows in
+    record {
+      held = held;
+      refused = refused;
+      holds = holds;
+      looks = looks;
+      met = met;
+      gives = gives;
+      within = met_still refused.number (Back old.number k why.Draining ∷ []) 0 old.seen until new.seen (omega (arith, since, looked)) gives.grows
+          (met_since old.seen held.seen until since met);
+    }

@@ -12,8 +12,10 @@ use Rattle.wq_words.specs.Valued.{first_in, left_of, paired, value_if, value_of}
 use Rattle.wq_live.specs.declared.value_answer.ValueAnswer.{ValueAnswer}
 use Rattle.wq_live.specs.declared.value_answer.ValueAnswer.TheVariants as given
 use Rattle.wq_live.specs.Answers.{Chains}
-use Rattle.wq_live.specs.KnownWith.{BringsOrReturns, ChainsOrReturns}
-use Rattle.wq_live.specs.OwnBrought.{own_brought_by, own_brought, queued_value}
+use Rattle.wq_live.specs.KnownWith.{BringsOrReturns, BringsNothing, ChainsOrReturns, IsBroughtBy}
+use Rattle.wq_words.specs.declared.answer.Answer.{Answer}
+use Rattle.wq_words.specs.declared.answer.Answer.TheVariants as answer
+use Rattle.wq_live.specs.OwnBrought.{own_brought_by, own_brought, queued_value, queued_nothing}
 
 onto : {X : Type 0} (o : Option X) (us vs : List X) → cons_option o (us ++ vs) ≡ cons_option o us ++ vs
 onto None us vs = refl
@@ -138,21 +140,42 @@ own_as_before xs n old new none g learnt =
     own_still old.known.number xs n old.known.seen new.known.seen old.brought new.brought none g learnt.more learnt.was_whole ∙
     sym (append-nil (own_brought old.known.number old.known.seen old.brought))
 
+-- a queueing that was answered Queued adds what it brought
+own_queued : {V : Type 0} (k : ℕ) (is_first is_waking : Bool) (y : Option V) (old new : KnownWith V)
+    → Sees (Hold old.known.number k ∷ Push old.known.number k ∷ []) 0 old.known new.known → IsBroughtBy k is_first is_waking y new → Learnt old new
+    → own_brought old.known.number new.known.seen new.brought ≡ own_brought old.known.number old.known.seen old.brought ++ y ∷ []
+own_queued k is_first is_waking y old new sees brings learnt =
+    let c = old.known.number in let number = sees.same.number_is in let p = brings.0 in
+    own_last c (Hold c k ∷ Push c k ∷ []) 0 (Push c k) k old.known.seen new.known.seen p.before p.after old.brought new.brought y refl
+    (eq-eqb c c refl) refl sees.grows learnt.more learnt.was_whole
+    (p.is ∙ ap (λ (d : ℕ). p.before ++ Push d k ∷ p.after) number) (ap (λ (d : ℕ). own d p.after) (sym number) ∙ p.last) brings.1
+
 -- a queueing adds its value to what the seat's own queueings brought, where it was queued
 pub brings_own : {V : Type 0} (k tries : ℕ) (v : V) (a : ValueAnswer V) (old new : KnownWith V) → Answers k tries (answer_of a) old.known new.known
     → BringsOrReturns k v a new → Learnt old new
     → own_brought old.known.number new.known.seen new.brought ≡ own_brought old.known.number old.known.seen old.brought ++ queued_value v a
 brings_own k tries v (given.Queued is_first is_waking) old new answers brings learnt =
-    let c = old.known.number in let number = answers.0.same.number_is in let p = brings.0 in
-    own_last c (Hold c k ∷ Push c k ∷ []) 0 (Push c k) k old.known.seen new.known.seen p.before p.after old.brought new.brought (Some v) refl
-    (eq-eqb c c refl) refl answers.0.grows learnt.more learnt.was_whole
-    (p.is ∙ ap (λ (d : ℕ). p.before ++ Push d k ∷ p.after) number) (ap (λ (d : ℕ). own d p.after) (sym number) ∙ p.last) brings.1
+    own_queued k is_first is_waking (Some v) old new answers.0 brings learnt
 brings_own k tries v (given.Pending w) old new answers back learnt = own_as_before (Busy old.known.number k ∷ []) 0 old new refl answers.grows learnt
 brings_own k tries v (given.Closed w) old new answers back learnt =
     let c = old.known.number in own_as_before (Hold c k ∷ Back c k why.Closed ∷ []) 0 old new refl answers.grows learnt
 brings_own k tries v (given.Contended w) old new answers back learnt =
     let c = old.known.number in own_as_before (Hold c k ∷ Back c k why.Contended ∷ []) tries old new refl answers.grows learnt
 brings_own k tries v (given.Draining w) old new answers back learnt =
+    let c = old.known.number in own_as_before (Hold c k ∷ Back c k why.Draining ∷ []) 0 old new refl answers.0.grows learnt
+
+-- a queueing that brings nothing adds no value, where it was queued
+pub brings_none : {V : Type 0} (k tries : ℕ) (a : Answer) (old new : KnownWith V) → Answers k tries a old.known new.known → BringsNothing k a new
+    → Learnt old new
+    → own_brought old.known.number new.known.seen new.brought ≡ own_brought old.known.number old.known.seen old.brought ++ queued_nothing a
+brings_none k tries (answer.Queued is_first is_waking) old new answers brings learnt =
+    own_queued k is_first is_waking None old new answers.0 brings learnt
+brings_none k tries answer.Pending old new answers _ learnt = own_as_before (Busy old.known.number k ∷ []) 0 old new refl answers.grows learnt
+brings_none k tries answer.Closed old new answers _ learnt =
+    let c = old.known.number in own_as_before (Hold c k ∷ Back c k why.Closed ∷ []) 0 old new refl answers.grows learnt
+brings_none k tries answer.Contended old new answers _ learnt =
+    let c = old.known.number in own_as_before (Hold c k ∷ Back c k why.Contended ∷ []) tries old new refl answers.grows learnt
+brings_none k tries answer.Draining old new answers _ learnt =
     let c = old.known.number in own_as_before (Hold c k ∷ Back c k why.Draining ∷ []) 0 old new refl answers.0.grows learnt
 
 -- a chaining adds its value to what the owner's own queueings brought, where it was queued

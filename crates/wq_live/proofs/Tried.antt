@@ -3,6 +3,7 @@ use Rattle.wq_live.proofs.Common.{ℕ, [], ◌∷◌, subst, arith, Hold, Back, 
 use Rattle.wq_words.specs.declared.event.Why.TheVariants as why
 use Rattle.wq_words.specs.declared.answer.Answer.TheVariants as answer
 use Rattle.wq_live.proofs.Sends.{sees_on}
+use Rattle.wq_live.proofs.Drained.{met_between}
 
 -- it is the same seat
 pub answers_same : (k tries : ℕ) (a : Answer) (s t : Known) → Answers k tries a s t → IsSame s t
@@ -18,12 +19,5 @@ pub turned_back : (k : ℕ) (s t u w : Known) → Sees (Hold s.number k ∷ []) 
 turned_back k s t u w held met gave =
     let upto : Sees (Hold s.number k ∷ []) 0 s u = sees_on (λ z. Hold z k ∷ []) (λ z. []) 0 0 0 s t u (omega arith) held met.0 in (
       sees_on (λ z. Hold z k ∷ []) (λ z. Back z k why.Draining ∷ []) 0 0 0 s u w (omega arith) upto gave,
-      record {
-        held = t;
-        refused = u;
-        holds = held;
-        looks = met.0;
-        met = met.1;
-        gives = subst (λ (c : ℕ). Sees (Back c k why.Draining ∷ []) 0 u w) upto.same.number_is gave;
-      },
+      met_between k s t u w held met.0 met.1 (subst (λ (c : ℕ). Sees (Back c k why.Draining ∷ []) 0 u w) upto.same.number_is gave),
     )

@@ -30,7 +30,8 @@ pub record IsPushed (s k : ℕ) (is_first is_waking : Bool) (h : List Event) : T
 abbrev pub HasMetDrain : List Event → List Event → Type 0
 HasMetDrain before after = (moment : ℕ) × (length before ≤ moment) × IsDraining (take moment after)
 
--- A queueing of k that a drain turned back: the hold, a look that meets the queue draining, the give-back.
+-- A queueing of k that a drain turned back: the hold, a look that meets the queue draining, the give-back. So the queue drained
+-- at some moment of the call.
 pub record IsTurnedBack (k : ℕ) (old new : Known) : Type 0 where
   pub held : Known
   pub refused : Known
@@ -38,6 +39,7 @@ pub record IsTurnedBack (k : ℕ) (old new : Known) : Type 0 where
   pub looks : Sees [] 0 held refused
   pub met : HasMetDrain held.seen refused.seen
   pub gives : Sees (Back old.number k why.Draining ∷ []) 0 refused new
+  pub within : HasMetDrain old.seen new.seen
 
 -- the test-and-set of the number k's bit: true where it was clear
 abbrev pub TestsAndSets : ℕ → Bool → Known → Known → Type 0

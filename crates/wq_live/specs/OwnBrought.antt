@@ -3,6 +3,8 @@ use Rattle.std.specs.Prelude.{ℕ, ◌==◌, if◌then◌else◌, List, [], ◌�
 use Rattle.wq_words.specs.declared.event.Event.{Event}
 use Rattle.wq_words.specs.Seen.{seat_of}
 use Rattle.wq_words.specs.Valued.{Valued, brought_by, with_values}
+use Rattle.wq_words.specs.declared.answer.Answer.{Answer}
+use Rattle.wq_words.specs.declared.answer.Answer.TheVariants as answer
 use Rattle.wq_live.specs.declared.value_answer.ValueAnswer.{ValueAnswer}
 use Rattle.wq_live.specs.declared.value_answer.ValueAnswer.TheVariants as value
 
@@ -17,3 +19,8 @@ own_brought s h values = filter_map (own_brought_by s) (with_values h values)
 abbrev pub queued_value : {V : Type 0} → V → ValueAnswer V → List (Option V)
 queued_value v (value.Queued is_first is_waking) = Some v ∷ []
 queued_value v _ = []
+
+-- what the queueing of a barrier or of the stop item brought, if it was queued: no value
+abbrev pub queued_nothing : {V : Type 0} → Answer → List (Option V)
+queued_nothing (answer.Queued is_first is_waking) = None ∷ []
+queued_nothing _ = []

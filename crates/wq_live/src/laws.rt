@@ -16,8 +16,8 @@ ghost use Rattle.wq_live.specs.Answers.{TestsAndSets, Answers, Posts, Chains};
 ghost use Rattle.wq_live.specs.Counts.{sender_counts, owner_counts};
 ghost use Rattle.wq_live.specs.Laws.{queued_number, pushed_number, IsStillEnd, IsStillOwned};
 ghost use Rattle.wq_live.specs.declared.value_answer.ValueAnswer.{ValueAnswer};
-ghost use Rattle.wq_live.specs.KnownWith.{KnownWith, Learnt, answer_of, BringsOrReturns, ChainsOrReturns};
-ghost use Rattle.wq_live.specs.OwnBrought.{own_brought, queued_value};
+ghost use Rattle.wq_live.specs.KnownWith.{KnownWith, Learnt, answer_of, BringsOrReturns, BringsNothing, ChainsOrReturns};
+ghost use Rattle.wq_live.specs.OwnBrought.{own_brought, queued_value, queued_nothing};
 
 /// A queueing that is answered Queued adds its number to what was accepted of its sender; any other answer adds nothing.
 pub fn queued_is_accepted()
@@ -123,6 +123,14 @@ pub fn queued_brings<V>()
     ensures grows { (k tries : ℕ) (v : V) (a : ValueAnswer V) (old new : KnownWith V) → Answers k tries (answer_of a) old.known new.known
         → BringsOrReturns k v a new → Learnt old new
         → own_brought old.known.number new.known.seen new.brought ≡ own_brought old.known.number old.known.seen old.brought ++ queued_value v a }
+{}
+
+/// A queueing of a barrier or of the stop item that is answered Queued adds no value to what the sender's own queueings brought, but
+/// its place; any other answer adds nothing.
+pub fn queued_brings_nothing<V>()
+    ensures grows { (k tries : ℕ) (a : Answer) (old new : KnownWith V) → Answers k tries a old.known new.known → BringsNothing k a new
+        → Learnt old new
+        → own_brought old.known.number new.known.seen new.brought ≡ own_brought old.known.number old.known.seen old.brought ++ queued_nothing a }
 {}
 
 /// A chaining of an item with a value that is answered Queued adds that value to what the owner's own chainings brought; any other

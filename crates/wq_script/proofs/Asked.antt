@@ -6,7 +6,6 @@ use Rattle.wq_script.proofs.Common.{shut, HasMetDrain, draining, queue_events, q
 use Rattle.wq_script.proofs.Common.{Reaches}
 use Rattle.wq_words.specs.declared.event.Why.TheVariants as why
 use Rattle.wq_words.proofs.Rest.{wakes_quiet}
-use Rattle.wq_live.proofs.Drained.{met_turned}
 use Rattle.wq_words.specs.declared.answer.Answer.TheVariants as answer
 use Rattle.wq_script.proofs.Seated.{Acts, with_sender, sender_acts, worker_acts}
 use Rattle.wq_script.proofs.Queueings.{busy_events, push_events, refused_events, drained_events, queue_says, not_closed, not_draining, last_own}
@@ -70,7 +69,7 @@ module _ (layout : Layout) (t : Seats) (h : List Event) (p k : ℕ) (x z : Known
       let sees : Sees xs 0 x z = subst (λ (m : ℕ). Sees (Hold m k ∷ Back m k why.Draining ∷ []) 0 x z) number told.0 in
       let a : Acts layout t h x.seen z.seen xs 0 = acts xs 0 sees in
       let met : HasMetDrain h (h ++ xs) = subst (λ (v : List Event). HasMetDrain v (h ++ xs)) a.alone
-      (subst (λ (w : List Event). HasMetDrain x.seen w) a.is (met_turned k x z told.1)) in
+      (subst (λ (w : List Event). HasMetDrain x.seen w) a.is told.1.within) in
       let e = drained_events a.seated.wide h p k a.seated.legal met in (
         sym (answer_draining h k e.0 e.1 e.2),
         subst (λ (ys : List Event). Seated layout t (h ++ ys)) e.3 a.seated,

@@ -8,7 +8,6 @@ use Rattle.wq_words.specs.declared.event.Event.TheVariants.{Chain, ChainBusy}
 use Rattle.wq_words.specs.declared.answer.Answer.{Answer}
 use Rattle.wq_words.specs.declared.answer.Answer.TheVariants as answer
 use Rattle.wq_live.specs.Answers.{Answers, Chains}
-use Rattle.wq_live.proofs.Drained.{met_turned}
 use Rattle.wq_worker.specs.Follow.{Queues, passed, pushed, busy, chained, chain_busy}
 use Rattle.wq_worker.specs.Pair.{settled, Attempts}
 use Rattle.wq_worker.proofs.Owned.{IsQuiet, quiet_none, quiet_append, Stays, quiet_stays, owner_of_both}
@@ -62,7 +61,7 @@ never_closed item tries old new opens h c =
 pub never_drains : (item tries : ℕ) (old new : KnownPair) → shut old.seen ≡ false → Answers item tries answer.Draining (pair_sender old) (pair_sender new)
     → Sees [] 0 (pair_owner old) (pair_owner new) → ⊥
 never_drains item tries old new opens h c = met_none 0 old.seen new.seen c.grows (open_from_shut old.seen opens)
-    (met_turned item (pair_sender old) (pair_sender new) h.1)
+    h.1.within
 
 pub told_send : (item tries : ℕ) (a : Answer) (old new : KnownPair) → item < old.layout.items → shut old.seen ≡ false
     → Answers item tries a (pair_sender old) (pair_sender new) → Sees [] 0 (pair_owner old) (pair_owner new)
