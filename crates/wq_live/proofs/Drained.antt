@@ -1,6 +1,6 @@
 -- A drain that a call met.
 use Rattle.wq_live.proofs.Common.{◌≡◌, ℕ, ◌≤◌, List, [], ◌∷◌, ◌++◌, length, take, sym, ap, ◌∙◌, subst, arith, append_assoc, length-append, Event, IsDraining}
-use Rattle.wq_live.proofs.Common.{Known, Hold, Back, Grows, take-length, HasMetDrain}
+use Rattle.wq_live.proofs.Common.{Known, Sees, Hold, Back, Grows, take-length, HasMetDrain}
 use Rattle.wq_live.specs.Answers.{IsTurnedBack}
 use Rattle.std.proofs.Common.{drop}
 use Rattle.std.proofs.lemmas.List.{take-append-drop, length-take}
