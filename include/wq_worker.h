@@ -8,6 +8,10 @@
  * wq_worker_stop. The worker's own function returns: it neither ends its thread nor lets an exception out. It calls none of the first
  * two and no wq_worker_flush: each waits for the function to return. In the owner's seat it calls wq_chain, wq_hand_out and what only
  * looks; a wq_close or wq_drain there stops or drains the queue, but the worker knows nothing of it, and sleeps until it is asked to.
+ * wq_worker_resume alone does not end such a drain: call wq_worker_drain first.
+ *
+ * The worker's memory is zero before its first start: static, or = {0}, in C++ = {}. A start that answers an error writes nothing there,
+ * but where that is WQ_NO_THREAD, and a wq_worker_stop behind it reads it.
  *
  * The worker's memory stays until each sender's last call through it has returned, also one that began before wq_worker_stop did: join
  * the senders' threads, then free it. So no queueing has to announce itself to the worker.
@@ -15,7 +19,6 @@
 #ifndef WQ_WORKER_H
 #define WQ_WORKER_H
 #include "wq.h"
-#include <errno.h>
 #include <limits.h>
 #include <linux/futex.h>
 #include <pthread.h>
@@ -63,7 +66,8 @@ static inline void wq_count(uint32_t *word) {
     wq_futex(word, FUTEX_WAKE_PRIVATE, INT_MAX);
 }
 
-/* A call in the owner's seat, once more while another call is in it: to end nothing, or close nothing, would stop the worker for good. */
+/* A call in the owner's seat, once more while another call is in it: to end nothing, or close nothing, would stop the worker for good,
+ * and that another call is there says nothing of the items. */
 #define WQ_WORKER_AGAIN(code, call) \
     while (((code) = (call)) == WQ_SEAT_BUSY) sched_yield()
 
@@ -124,10 +128,14 @@ static inline void wq_worker_disclaim(wq_seat *owner) {
 }
 
 static inline uint32_t wq_worker_launch(wq_worker *worker, wq_seat *owner, uint32_t items, wq_function *function, void *data) {
-    uint32_t rests = wq_rest(owner); /* that the queue rests then does no harm: the worker takes first */
-    if (rests != WQ_YES && rests != WQ_NO) return rests;
+    uint32_t code = wq_rest(owner); /* that the queue rests then does no harm: the worker takes first */
+    if (code != WQ_YES && code != WQ_NO) return code;
+    if (items == 0) return WQ_NO_ITEM;
     /* on an open queue, as this is, wq_chain queues nothing, and tells which items there are */
-    if (items == 0 || wq_chain(owner, items - 1) == WQ_NO_ITEM || wq_chain(owner, items) != WQ_NO_ITEM) return WQ_NO_ITEM;
+    WQ_WORKER_AGAIN(code, wq_chain(owner, items - 1));
+    if (code == WQ_NO_ITEM) return WQ_NO_ITEM;
+    WQ_WORKER_AGAIN(code, wq_chain(owner, items));
+    if (code != WQ_NO_ITEM) return WQ_NO_ITEM;
     worker->owner = owner;
     worker->function = function;
     worker->data = data;
@@ -166,7 +174,7 @@ static inline uint32_t wq_worker_queue(wq_worker *worker, wq_seat *sender, uint3
 
 /* Queues a barrier, and sleeps until all that was accepted before it has ended. Where the answer is no queueing it has not waited to
  * the end: the barrier was not queued, or the seat was given up meanwhile (WQ_NOT_SENDER) and the barrier is queued all the same. Not
- * from the worker's own function. */
+ * from the worker's own function, and not before wq_worker_start has answered WQ_OK: it would sleep, with its barrier queued. */
 static inline uint32_t wq_worker_flush(wq_worker *worker, wq_seat *sender, uint32_t barrier) {
     uint32_t code = wq_worker_wake(worker, wq_flush_begin(sender, barrier));
     if (!wq_is_queued(code)) return code;
@@ -179,13 +187,16 @@ static inline uint32_t wq_worker_flush(wq_worker *worker, wq_seat *sender, uint3
     }
 }
 
-/* Drains the queue: sleeps until all that was accepted has ended. Until wq_worker_resume a queueing is answered WQ_DRAINING. Not from
- * the worker's own function, as all that follow. */
+/* Drains the queue: sleeps until all that was accepted has ended. Until wq_worker_resume a queueing is answered WQ_DRAINING. Neither is
+ * for the worker's own function. Both return at once where there is no thread that would do it: the worker was not started, in memory
+ * that is zero, or wq_worker_finish has returned. */
 static inline void wq_worker_drain(wq_worker *worker) {
+    if (!worker->runs) return;
     wq_worker_ask(worker, WQ_DRAINED);
     wq_sleep(&worker->reached, WQ_SERVES);
 }
 static inline void wq_worker_resume(wq_worker *worker) {
+    if (!worker->runs) return;
     wq_worker_ask(worker, WQ_SERVES);
     wq_sleep(&worker->reached, WQ_DRAINED);
 }

@@ -52,6 +52,9 @@ static void starting(void) {
     is_refused_of(&owner, 0, WQ_NO_ITEM);
     is_refused_of(&owner, ITEMS - 1, WQ_NO_ITEM);
     is_refused_of(&owner, ITEMS + 1, WQ_NO_ITEM);
+    owner.held = 1; /* as while a call of another thread is in it */
+    is_refused(&owner, WQ_SEAT_BUSY);
+    owner.held = 0;
     CHECK(wq_queue(&sender, 0) != WQ_PENDING && wq_queue(&sender, 1) == WQ_QUEUED && wq_take(&owner, WQ_NO_NUMBER) == WQ_OK);
     is_refused(&owner, WQ_SOME_WAIT);
     CHECK(wq_begin(&owner, WQ_NO_NUMBER) == WQ_OK);
@@ -80,7 +83,8 @@ static void started(void) {
     }
 }
 
-/* A second worker on a seat, in the first one's memory or in other, changes nothing, and the seat is free again behind the first. */
+/* A second worker on a seat, in the first one's memory or in other, changes nothing, and the seat is free again behind the first. The one
+ * that was not started drains, resumes and ends nothing, and waits for nothing; nor does the first one once it has ended. */
 static void second(void) {
     static wq_worker another;
     for (int turn = 0; turn < 2; turn++) {
@@ -90,9 +94,13 @@ static void second(void) {
         uint32_t before = threads();
         is_refused(&owner, WQ_IN_USE);
         CHECK(wq_worker_start(&another, &owner, ITEMS, count, &another) == WQ_IN_USE && threads() <= before);
+        wq_worker_drain(&another);
+        wq_worker_resume(&another);
         CHECK(wq_worker_stop(&another) == WQ_NO_SEAT);
         CHECK(wq_is_queued(wq_worker_queue(&worker, &other, 3)) && wq_is_queued(wq_worker_flush(&worker, &sender, 0)));
         wq_worker_finish(&worker);
+        wq_worker_drain(&worker);
+        wq_worker_resume(&worker);
         CHECK(wq_load(&ran) == 1);
         is_refused(&owner, WQ_IS_CLOSED);
         release_all();
@@ -220,10 +228,12 @@ static void shut(uint32_t item, void *data) {
     CHECK((item == FIRST_RUN ? wq_close(&owner, WQ_NO_NUMBER) : wq_drain(&owner, WQ_NO_NUMBER)) == WQ_OK);
 }
 
-/* Where its function closes or drains the queue the worker sleeps until it is stopped, and takes no processor meanwhile. */
+/* Where its function closes or drains the queue the worker sleeps until it is stopped, and takes no processor meanwhile. Such a drain
+ * is not ended by a resume alone, but by a drain of the worker and a resume. */
 static void shut_inside(void) {
     const struct timespec idle = {0, 200 * 1000 * 1000};
     for (uint32_t item = FIRST_RUN; item <= BEHIND_FLUSH; item++) {
+        uint32_t shut_answer = item == FIRST_RUN ? WQ_CLOSED : WQ_DRAINING;
         build();
         CHECK(wq_worker_start(&worker, &owner, ITEMS, shut, &worker) == WQ_OK);
         CHECK(wq_is_queued(wq_worker_queue(&worker, &other, item)));
@@ -231,6 +241,13 @@ static void shut_inside(void) {
         clock_t before = clock();
         nanosleep(&idle, NULL);
         CHECK(clock() - before < CLOCKS_PER_SEC / 10);
+        while (wq_worker_queue(&worker, &other, ITEMS - 1) != shut_answer) sched_yield();
+        wq_worker_resume(&worker);
+        CHECK(wq_worker_queue(&worker, &other, ITEMS - 1) == shut_answer);
+        wq_worker_drain(&worker);
+        wq_worker_resume(&worker);
+        uint32_t code = wq_worker_queue(&worker, &other, ITEMS - 1);
+        CHECK(item == FIRST_RUN ? code == WQ_CLOSED : wq_is_queued(code));
         CHECK(wq_worker_stop(&worker) == WQ_OK && wq_release(&sender) == WQ_OK && wq_release(&other) == WQ_OK);
     }
 }
