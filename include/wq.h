@@ -1,7 +1,8 @@
 /* Ordered workqueues for C: a front over the proved library `wq_c` (libyeangvos.a, libyeangvos.so). docs/C.md says how to use it.
  *
- * A queue has items (0 .. items-1), barriers and a stop item. `wq_build` gives its owner a seat, `wq_hand_out` each sender one.
- * A seat is memory of the caller's, made vacant by `wq_init` before any other call, and not moved or copied until `wq_release`.
+ * A queue has items (0 .. items-1), barriers (0 .. barriers-1) and a stop item. `wq_build` gives its owner a seat, `wq_hand_out` each
+ * sender one. A seat is memory of the caller's, made vacant by `wq_init` before any other call, and not moved or copied until
+ * `wq_release`. No call takes NULL for a seat, and none finds it out.
  *
  * Threads: any thread may use a seat, but one call at a time may be in it. A seat is handed to another thread by that thread's
  * start or join, a lock, or an atomic; different seats of one queue need nothing. No call waits, takes a lock, or starts a
@@ -39,7 +40,9 @@ enum wq_code {
     /* The number was queued: it is executed at most once, and exactly once where a drain or the close behind it has ended.
      * WQ_FIRST: the list was empty. WQ_WAKES: the queue rested, so wake its owner. */
     WQ_QUEUED = 1, WQ_FIRST = 2, WQ_WAKES = 4,
-    WQ_PENDING = 8,    /* it was pending already, and nothing was changed */
+    /* Another queueing holds the number, and nothing was changed. If that one is accepted, what was written before this call is there
+     * when the number runs; if it is answered WQ_CLOSED, WQ_DRAINING or WQ_CONTENDED, nothing runs. */
+    WQ_PENDING = 8,
     WQ_CLOSED = 9,     /* the queue is closed */
     WQ_DRAINING = 10,  /* the queue was seen draining */
     WQ_CONTENDED = 11, /* other seats changed the list at each try */
@@ -142,9 +145,10 @@ static inline uint32_t wq_answer(uint64_t word, uint32_t *number) {
 }
 
 #define WQ_CALL(seat, number, call) do { \
+    uint64_t wq_word; \
     uint32_t wq_found = wq_enter(seat); \
     if (wq_found) return wq_found; \
-    uint64_t wq_word = (call); \
+    wq_word = (call); \
     wq_leave(seat); \
     return wq_answer(wq_word, (number)); } while (0)
 #define WQ_NO_NUMBER ((uint32_t *)0)
@@ -206,6 +210,7 @@ static inline uint32_t wq_queue_tries(wq_seat *sender, uint32_t item, uint32_t t
     WQ_CALL(sender, WQ_NO_NUMBER, wq_c_queue(sender->room, item, tries));
 }
 static inline uint32_t wq_queue(wq_seat *sender, uint32_t item) { return wq_queue_tries(sender, item, WQ_MOST_TRIES); }
+/* WQ_YES says what WQ_PENDING does, but hands nothing over. WQ_NO does not say that the execution has ended. */
 static inline uint32_t wq_is_pending(wq_seat *sender, uint32_t item) {
     WQ_CALL(sender, WQ_NO_NUMBER, wq_c_is_pending(sender->room, item));
 }
