@@ -58,6 +58,7 @@ static void executing(void) {
     CHECK(wq_begin(&owner, &n) == WQ_OK && n == 0 && wq_rest(&owner) == WQ_IS_RUNNING && wq_end(&owner) == WQ_OK);
     CHECK(wq_rest(&owner) == WQ_YES && wq_rest(&owner) == WQ_NO);
     CHECK(wq_flush_begin(&one, 0) == (WQ_QUEUED | WQ_FIRST | WQ_WAKES) && wq_flush_done(&one, 0) == WQ_NO);
+    CHECK(wq_flush_begin(&one, 0) == WQ_PENDING && wq_flush_done(&one, 0) == WQ_NO);
     CHECK(wq_rest(&owner) == WQ_NO && wq_take(&owner, &n) == WQ_OK && n == 1);
     CHECK(wq_begin(&owner, &n) == WQ_OK && n == 4 && wq_end(&owner) == WQ_OK && wq_flush_done(&one, 0) == WQ_YES);
 }
@@ -67,6 +68,7 @@ static void draining(void) {
     CHECK(wq_queue(&one, 1) == (WQ_QUEUED | WQ_FIRST) && wq_drain(&owner, &n) == WQ_OK && n == 1);
     CHECK(wq_drain(&owner, &n) == WQ_IS_DRAINING && wq_take(&owner, &n) == WQ_IS_DRAINING && wq_rest(&owner) == WQ_IS_DRAINING);
     CHECK(wq_queue(&one, 2) == WQ_DRAINING && wq_is_pending(&one, 2) == WQ_NO && wq_resume(&owner) == WQ_SOME_WAIT);
+    CHECK(wq_flush_begin(&one, 0) == WQ_DRAINING && wq_flush_done(&one, 0) == WQ_YES && wq_request_stop(&one) == WQ_DRAINING);
     CHECK(wq_chain(&owner, 3) == WQ_NONE_RUNS && wq_begin(&owner, &n) == WQ_OK && n == 1 && wq_resume(&owner) == WQ_IS_RUNNING);
     CHECK(wq_chain(&owner, 3) == WQ_QUEUED && wq_chain(&owner, 3) == WQ_PENDING && wq_end(&owner) == WQ_OK);
     CHECK(wq_begin(&owner, &n) == WQ_OK && n == 3 && wq_end(&owner) == WQ_OK && wq_release(&owner) == WQ_NOT_DONE);
@@ -79,22 +81,22 @@ static void draining(void) {
 static void counting(void) {
     wq_counts sent = {0}, ran = {0}, sums = {0};
     CHECK(wq_add_counts(&one, &sent) == WQ_OK && wq_add_counts(&owner, &ran) == WQ_OK);
-    CHECK(sent.queued == 6 && sent.pending == 1 && sent.closed == 2 && sent.draining == 1 && sent.contended == 0);
+    CHECK(sent.queued == 6 && sent.pending == 3 && sent.closed == 3 && sent.draining == 3 && sent.contended == 0);
     CHECK(sent.chained == 0 && sent.chain_pending == 0 && sent.executed == 0 && !wq_balances(&sent));
     CHECK(ran.chained == 2 && ran.chain_pending == 1 && ran.executed == 8 && ran.queued == 0 && ran.pending == 0 && !wq_balances(&ran));
     CHECK(wq_add_counts(&two, &sums) == WQ_OK && sums.queued == 0 && sums.executed == 0 && wq_balances(&sums));
     CHECK(wq_add_counts(&one, &sums) == WQ_OK && wq_add_counts(&owner, &sums) == WQ_OK && wq_balances(&sums));
-    CHECK(sums.queued == 6 && sums.chained == 2 && sums.executed == 8 && sums.pending == 1 && sums.closed == 2 && sums.draining == 1);
+    CHECK(sums.queued == 6 && sums.chained == 2 && sums.executed == 8 && sums.pending == 3 && sums.closed == 3 && sums.draining == 3);
     CHECK(wq_c_count(one.room, 8) == 0 && wq_c_count(one.room, UINT32_MAX) == 0 && wq_c_count(owner.room, 8) == 0);
 }
 
 static void closing(void) {
     uint32_t n = 77;
-    CHECK(wq_request_stop(&one) == (WQ_QUEUED | WQ_FIRST));
+    CHECK(wq_request_stop(&one) == (WQ_QUEUED | WQ_FIRST) && wq_request_stop(&one) == WQ_PENDING);
     CHECK(wq_close(&owner, &n) == WQ_OK && n == 1 && wq_close(&owner, &n) == WQ_IS_CLOSED && wq_drain(&owner, &n) == WQ_IS_CLOSED);
     CHECK(wq_take(&owner, &n) == WQ_IS_CLOSED && wq_rest(&owner) == WQ_IS_CLOSED && wq_resume(&owner) == WQ_NOT_DRAINING);
     CHECK(wq_queue(&one, 1) == WQ_CLOSED && wq_is_pending(&one, 1) == WQ_NO && wq_flush_begin(&one, 0) == WQ_CLOSED);
-    CHECK(wq_begin(&owner, &n) == WQ_OK && n == 5 && wq_chain(&owner, 3) == WQ_QUEUED);
+    CHECK(wq_begin(&owner, &n) == WQ_OK && n == 5 && wq_request_stop(&one) == WQ_CLOSED && wq_chain(&owner, 3) == WQ_QUEUED);
     CHECK(wq_end(&owner) == WQ_OK && wq_is_done(&owner) == WQ_NO && wq_release(&owner) == WQ_NOT_DONE);
     CHECK(wq_begin(&owner, &n) == WQ_OK && n == 3 && wq_end(&owner) == WQ_OK && wq_is_done(&owner) == WQ_YES);
     counting();

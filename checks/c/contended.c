@@ -1,17 +1,20 @@
 /* A sender queues items with one try each, and the signal of a timer comes between: in it another sender queues an item, and the owner
  * executes all that waits. Where it comes between a push's look at the head and its exchange, the try is lost; the item is not pending
- * then, and the next try queues it. One thread does all of it, so it needs no second processor. */
+ * then, and the next try queues it. So it is of a barrier and of the stop item. One thread does all of it, so it needs no second
+ * processor. */
 #include "check.h"
 #include "wq.h"
 #include <signal.h>
 #include <sys/time.h>
 #include <time.h>
 
-enum { OWN = 4000, WANTED = 100, MICROSECONDS = 50, SECONDS = 40 };
+enum { OWN = 4000, WANTED = 100, WANTED_EACH = 20, MICROSECONDS = 50, SECONDS = 40 };
 
 static wq_seat owner, sender, other;
 static volatile uint64_t ran, others;
 static uint64_t queued, lost;
+static time_t late;
+static int is_owning; /* whether the owner executes outside the signal, which then leaves its seat alone */
 
 static void execute_all(void) {
     uint32_t n;
@@ -29,6 +32,10 @@ static void arm(long microseconds) {
 static void interrupt(int number) {
     uint32_t n;
     CHECK(signal(number, interrupt) != SIG_ERR); /* a signal that is set by C99 alone is set once */
+    if (__atomic_load_n(&is_owning, __ATOMIC_SEQ_CST)) {
+        arm(MICROSECONDS);
+        return;
+    }
     CHECK(wq_is_queued(wq_queue_tries(&other, OWN, 1)));
     others++;
     CHECK(wq_take(&owner, &n) == WQ_OK && n > 0);
@@ -49,18 +56,50 @@ static int is_lost(uint32_t item) {
     return 0;
 }
 
+static int has_time(uint32_t turn) { return turn % OWN != 0 || time(NULL) < late; }
+
+/* One try each, for which wq.h has no call: of a barrier and of the stop item it makes the most tries. */
+static uint32_t flush_once(void) { return (uint32_t)wq_c_flush_begin(sender.room, 0, 1); }
+static uint32_t stop_once(void) { return (uint32_t)wq_c_request_stop(sender.room, 1); }
+
+/* There is one of this number, so the owner executes it before it is queued again. It is queued behind an item: on an empty list the
+ * head is after the signal what it was before, and the exchange is won. It is never pending: what was queued has begun, and what was
+ * lost was given back. */
+static void lose_tries(uint32_t (*once)(void)) {
+    uint32_t wanted = WANTED_EACH, n;
+    for (uint32_t turn = 0; wanted > 0 && has_time(turn); turn++) {
+        while (is_lost(turn % OWN)) { }
+        uint32_t code = once();
+        CHECK(code == WQ_CONTENDED || wq_is_queued(code));
+        if (code == WQ_CONTENDED) {
+            lost++;
+            wanted--;
+        } else {
+            queued++;
+        }
+        __atomic_store_n(&is_owning, 1, __ATOMIC_SEQ_CST);
+        CHECK(wq_take(&owner, &n) == WQ_OK);
+        execute_all();
+        __atomic_store_n(&is_owning, 0, __ATOMIC_SEQ_CST);
+    }
+    CHECK(wanted == 0);
+}
+
 int main(void) {
-    time_t late = time(NULL) + SECONDS;
     uint32_t n;
+    late = time(NULL) + SECONDS;
     wq_counts sums = {0};
     CHECK(wq_init(&owner) == WQ_OK && wq_init(&sender) == WQ_OK && wq_init(&other) == WQ_OK);
     CHECK(wq_build(&owner, OWN + 1, 1, 2) == WQ_OK && wq_hand_out(&owner, &sender) == WQ_OK && wq_hand_out(&owner, &other) == WQ_OK);
     CHECK(signal(SIGALRM, interrupt) != SIG_ERR);
     arm(MICROSECONDS);
-    for (uint32_t turn = 0; lost < WANTED && (turn % OWN != 0 || time(NULL) < late); turn++)
+    for (uint32_t turn = 0; lost < WANTED && has_time(turn); turn++)
         while (is_lost(turn % OWN)) { }
+    CHECK(lost >= WANTED);
+    lose_tries(flush_once);
+    lose_tries(stop_once);
     CHECK(signal(SIGALRM, SIG_IGN) != SIG_ERR);
-    CHECK(lost >= WANTED && wq_close(&owner, &n) == WQ_OK);
+    CHECK(wq_close(&owner, &n) == WQ_OK);
     execute_all();
     CHECK(ran == queued + others);
     CHECK(wq_add_counts(&owner, &sums) == WQ_OK && wq_add_counts(&sender, &sums) == WQ_OK && wq_add_counts(&other, &sums) == WQ_OK);
