@@ -97,7 +97,7 @@ echo "the other compiler of the kit: each code as it is said, each sender's item
 if command -v valgrind >/dev/null; then
     built codes
     built threads
-    for program in codes "threads 10" pure; do
+    for program in codes "threads 10" pure "random $work/runs 1 20"; do
         # shellcheck disable=SC2086 # the words of the program
         timeout 120 valgrind -q --leak-check=full --error-exitcode=9 "$work/"$program >"$work/said"
     done
@@ -107,7 +107,7 @@ else
 fi
 for sanitizer in address,undefined thread; do
     if echo 'int main(void) { return 0; }' | "${CC:-cc}" -x c -fsanitize=$sanitizer -o "$work/tried" - 2>/dev/null && setarch -R "$work/tried" 2>/dev/null; then
-        for program in codes "threads 100" worker worker_answers pure; do
+        for program in codes "threads 100" worker worker_answers pure "random $work/runs 1 20"; do
             built "${program%% *}" -fsanitize=$sanitizer
             # shellcheck disable=SC2086 # the words of the program
             timeout 60 setarch -R "$work/"$program >"$work/said"
@@ -149,7 +149,7 @@ done
 grep "^again" "$work/lines" | diff - <(for line in 4 5 6 7; do echo "again: thread 0 line $line"; done)
 echo "loggers: each thread's lines in its order"
 if command -v rustc >/dev/null && rustc --version >/dev/null 2>&1; then
-    rustc --edition 2024 -O -o "$work/rust" checks/c/client.rs -C link-arg="$work/libyeangvos.a"
+    rustc --edition 2021 -O -o "$work/rust" checks/c/client.rs -C link-arg="$work/libyeangvos.a"
     timeout 60 "$work/rust"
 else
     left_out rustc

@@ -1,7 +1,7 @@
 // A Rust program over the static library: two threads queue, and each one's items run in its order.
 use std::alloc::{Layout, alloc, dealloc};
 
-unsafe extern "C" {
+extern "C" {
     fn wq_c_seat_size() -> usize;
     fn wq_c_init(at: *mut u8);
     fn wq_c_build(at: *mut u8, items: u32, barriers: u32, senders: u32) -> u64;
