@@ -8,10 +8,14 @@
     owner.begin()              # the number, or None where nothing waits
     owner.end()
 
+`counts` stands for wq_add_counts: it answers what the seat has counted, and counts are added by `+`. `queue`, `flush_begin` and
+`request_stop` take tries here, the most where none are given; in C only wq_queue_tries does.
+
 A call that is refused raises WqError with its code, and has changed nothing. A Seat owns its memory and lets one call at a time into
 it. It is given up by `release`, at the end of a `with`, or where nobody holds it any more; an owner's only once its queue has run to its
 end, else a dropped one loses the queue's memory, with a ResourceWarning. `check_history` judges a history. The library is the file that
-YEANGVOS_LIBRARY names, or libyeangvos.so.1 where the loader finds it.
+YEANGVOS_LIBRARY names, or libyeangvos.so.1 where the loader finds it. The import raises ImportError where a seat of it wants another
+alignment than a Seat has.
 """
 import array
 import ctypes
@@ -101,7 +105,9 @@ class WqError(Exception):
 
 
 _library = ctypes.CDLL(os.environ.get("YEANGVOS_LIBRARY") or "libyeangvos.so.1")  # which WQ_MAJOR of wq.h names, too
-_library.wq_c_seat_size.restype = ctypes.c_size_t
+_library.wq_c_seat_size.restype = _library.wq_c_seat_align.restype = ctypes.c_size_t
+if ALIGNMENT % _library.wq_c_seat_align():  # wq_init answers WQ_SEAT_SIZE; a seat's size is asked for each one
+    raise ImportError(f"a seat of {_library._name} is aligned by {_library.wq_c_seat_align()}, and not by {ALIGNMENT}")
 for _name in ("build hand_out release queue is_pending flush_begin flush_done request_stop number take close drain resume next waiting begin "
               "end rest chain is_done count").split():
     getattr(_library, "wq_c_" + _name).restype = ctypes.c_uint64
@@ -205,6 +211,9 @@ class Seat:
 
     def queue(self, item, tries=MOST_TRIES):
         return self._call("queue", item=item, tries=tries)[0]
+
+    def queue_tries(self, item, tries):
+        return self.queue(item, tries)
 
     def is_pending(self, item):
         return self._call("is_pending", item=item)[0] == Code.YES

@@ -50,8 +50,9 @@ for number in range(THREADS):
 assert owner.drain() == 0 and senders[0].queue(0) == Code.DRAINING
 owner.resume()
 assert not senders[0].is_pending(0) and owner.close() == 0 and owner.is_done() and senders[0].queue(0) == Code.CLOSED
+assert senders[0].queue_tries(0, 1) == Code.CLOSED and refused(senders[0].queue_tries, 0, 0) == Error.NO_TRIES
 sums = sum((seat.counts() for seat in [*senders, owner]), Counts())
-assert sums.balances and sums.executed == len(ran) and sums.draining == 1 and sums.closed == 1 and Seat().counts() == Counts()
+assert sums.balances and sums.executed == len(ran) and sums.draining == 1 and sums.closed == 2 and Seat().counts() == Counts()
 for seat in [*senders, owner]:
     seat.release()
 once = [(Kind.HOLD, 0, 2), (Kind.PUSH, 0, 2), (Kind.TAKE, 0, 0), (Kind.BEGIN, 0, 2)]

@@ -1,9 +1,11 @@
 """wq.py: what a caller does wrong is found out by an error that says it, and a seat that was dropped is given up."""
 import copy
+import ctypes
 import decimal
 import gc
 import os
 import pickle
+import runpy
 import signal
 import warnings
 import wq
@@ -76,6 +78,19 @@ def events():
     raised(TypeError, "event 0", check_history, ["abc"], 4, 1, 1)
     raised(ValueError, "items is 4294967297", check_history, [], WIDE + 1, 1, 1)
     raised(ValueError, "senders is -1", check_history, [], 1, 1, -1)
+
+
+class Wide:
+    """In place of the library: a seat of it wants more than a Seat has."""
+    _name = "wide"
+    wq_c_seat_size = wq_c_seat_align = staticmethod(lambda: 256)
+
+
+def alignment():
+    """A library whose seats want another alignment is refused where it is imported."""
+    real, ctypes.CDLL = ctypes.CDLL, lambda _: Wide()
+    raised(ImportError, "aligned by 256", runpy.run_path, wq.__file__)
+    ctypes.CDLL = real
 
 
 class Told:
@@ -214,6 +229,6 @@ def nested():
     run_to_end(owner)
 
 
-for part in numbers, events, hand_outs, codes, sums, errors, ends, drops, nested:
+for part in numbers, events, alignment, hand_outs, codes, sums, errors, ends, drops, nested:
     part()
 print("misuse.py: each is found out by its error")

@@ -1,40 +1,52 @@
 #!/usr/bin/env python3
-"""Four threads write log lines through one ordered workqueue, and this one prints them: each thread's lines in its order."""
+"""Four threads write log lines through one ordered workqueue, and this one prints them: each thread's lines in its order. A flush waits
+for all lines before it."""
 import threading
+import time
 from wq import Code, Counts, Seat
 
 THREADS, LINES = 4, 4
 owner, senders, woken = Seat(), [Seat() for _ in range(THREADS)], threading.Semaphore(0)
-owner.build(items=THREADS * LINES, barriers=1, senders=THREADS)
+owner.build(items=THREADS * LINES, barriers=THREADS, senders=THREADS)
 for sender in senders:
     owner.hand_out(sender)
 text = {}
 
 
+def wake(code):
+    if code.wakes:
+        woken.release()
+
+
 def write_lines(thread):
+    sender = senders[thread]
     for line in range(LINES):
         item = thread * LINES + line
         text[item] = f"thread {thread} line {line}"
-        if senders[thread].queue(item).wakes:
-            woken.release()
+        wake(sender.queue(item))
+    wake(sender.flush_begin(thread))
+    while not sender.flush_done(thread):
+        time.sleep(0.001)
+    # its lines are printed
 
 
-def print_lines():
-    printed = 0
-    while (item := owner.begin()) is not None:
-        print(text[item])
+def run_all():
+    ran = 0
+    while (number := owner.begin()) is not None:
+        if number in text:  # else a barrier
+            print(text[number])
         owner.end()
-        printed += 1
-    return printed
+        ran += 1
+    return ran
 
 
 threads = [threading.Thread(target=write_lines, args=(thread,)) for thread in range(THREADS)]
 for thread in threads:
     thread.start()
-left = THREADS * LINES
+left = THREADS * (LINES + 1)  # a barrier of each thread
 while left:
     owner.take()
-    left -= print_lines()
+    left -= run_all()
     if left and owner.rest():
         woken.acquire()
 for thread in threads:
