@@ -64,6 +64,22 @@ OTHERS = [
 # behind the last line
 END = None
 
+NOT_UNDERSTOOD = [
+    TRACE_CMD + "workqueue_queue_work:  work=0xffff88810a function=0xffffffff81 workqueue=mine req_cpu=64 cpu=1",
+    TRACE_CMD + "workqueue_queue_work: [FAILED TO PARSE] work=0xffff88810a function=0xffffffff81 workqueue=mine",
+    TRACE_CMD + "workqueue_execute_start: [FAILED TO PARSE] work=0xffff88810a function=0xffffffff81",
+    TRACE_CMD + "(+12) workqueue_execute_end: [FAILED TO PARSE] work=0xffff88810a",
+    "  kworker-57      1d..2.  104us+: workqueue_execute_end: work=0xffff88810a",
+    PERF + "workqueue_execute_end: [FAILED TO PARSE] work=0xffff88810a",
+    PERF.replace("workqueue:", "   1 workqueue:") + "workqueue_execute_end:",
+    "workqueue_execute_start: work=0xffff88810a",
+    started("0xFF01"),
+    ended("00aag"),
+    queued("0xFF01", "other"),
+    queued("aa").partition(" req_cpu=")[0],
+    queued("aa", "other").partition(" workqueue=")[0],
+]
+
 ROWS = [
     (
         "ftrace",
@@ -212,6 +228,21 @@ ROWS = [
     ),
     ("addresses that are hidden", [("# tracer: nop", "#"), (queued("(____ptrval____)"), "lost")]),
     ("a hidden address of a start", [(queued("aa"), "queue 0"), (started("(____ptrval____)"), "lost")]),
+    (
+        "lines of other events that have the name of one of these",
+        [
+            ("# cmdline : perf record -e workqueue:workqueue_queue_work -e workqueue:workqueue_execute_end", "#"),
+            ("# event : name = workqueue:workqueue_execute_start, , id = { 1, 2 }", "#"),
+            (TRACE_CMD + "sched_switch:         workqueue_queue_work:57 [120] R ==> workqueue_execute_end:58 [120]", "#"),
+            ("workqueue_queue_work-57      [001] d..2.   104.367288: sched_waking: comm=workqueue_queue_work pid=58", "#"),
+            (ftrace("activate_work", " aa", " function=workqueue_queue_work "), "#"),
+            (PERF.replace("workqueue:", "timer:") + "timer_init: timer=0xaa function=workqueue_execute_start", "#"),
+            (TRACE_CMD + "tracing_mark_write: workqueue_queue_work: from here on", "#"),
+            (TRACE_CMD + "function: trace_event_raw_event_workqueue_queue_work: <-- __queue_work", "#"),
+            (queued("aa", "mine", "workqueue_execute_end"), "queue 0"),
+        ],
+    ),
+    *[(f"no line that is understood: {line}", [(queued("aa"), "queue 0"), (line, "lost")]) for line in NOT_UNDERSTOOD],
 ]
 # a work is freed in its function, and its address is used again on another queue: the end there is not the one here
 ROWS += [
@@ -269,6 +300,20 @@ VERDICTS = [
         at(4, OVERTAKES) + at(1, OVERTAKES, "queue 0, "),
     ),
     ("a loss", [*TWICE[:3], LOST], "line 4: events were lost, and nothing can be said from there on", "", ""),
+    (
+        "a start that is not understood",
+        [queued("aa"), NOT_UNDERSTOOD[2], ended("aa")],
+        "line 2: a line that is not understood, and nothing can be said from there on",
+        "",
+        "",
+    ),
+    (
+        "no queueing that is understood",
+        NOT_UNDERSTOOD[:1],
+        "line 1: a line that is not understood, and nothing can be said from there on",
+        "",
+        "",
+    ),
     ("too many", [queued(it) for it in "abcdef"], "line 5: more than 4 works at once, and nothing can be said from there on", "", ""),
     (
         "a name that no queue has",
@@ -288,10 +333,14 @@ VERDICTS = [
 ]
 
 LEGAL = "".join(f"{line}\n" for line in TWICE[:3]).encode()
+CUT = queued("bb").partition("ne req_cpu=")[0].encode()
 STRANGE = b"".join(line.encode().replace(b"kworker", b"\xff\r\xe2\x82\xac") + b"\n" for line in OVERTAKES)
 # words, what is read, how the shell begins, the status, and what stands in the output
 WORDS = [
     ("--check --drained mine", LEGAL, "", 0, "legal\n"),
+    ("--check --drained mine", LEGAL + CUT, "", 1, "line 4: a line that is cut off, and nothing can be said from there on\n"),
+    ("mine", LEGAL + CUT, "", 1, "end 0\nlost\nline 4: a line that is cut off"),
+    ("mine", LEGAL[:-1], "", 1, "start 0\nlost\nline 3: a line that is cut off"),
     ("--check mine", LEGAL, ">/dev/full", 1, "No space left on device"),
     ("--check mine", LEGAL, ">&-", 1, "output: Unwritable"),
     ("mine", LEGAL, ">/dev/full", 1, "No space left on device"),
@@ -335,14 +384,14 @@ class Converter:
     def marks(self, lines):
         """What is written, and why there can be no verdict."""
         to = io.StringIO()
-        why = self.module.write_marks(lines, "mine", to, deque(maxlen=self.module.KEPT))
+        why = self.module.write_marks((f"{line}\n" for line in lines), "mine", to, deque(maxlen=self.module.KEPT))
         return to.getvalue().splitlines(), why
 
     def checks(self, lines):
         """The status or what is said in its place, and what is printed."""
         to = io.StringIO()
         with redirect_stdout(to), redirect_stderr(to):
-            status = self.module.check(lines, Asked(name="mine", drained=True), deque(maxlen=self.module.KEPT))
+            status = self.module.check((f"{line}\n" for line in lines), Asked(name="mine", drained=True), deque(maxlen=self.module.KEPT))
         return status, to.getvalue()
 
 

@@ -17,9 +17,11 @@ from contextlib import suppress
 
 ITEMS, KEPT, NAMED = 65536, 1 << 17, 8
 EVENT = re.compile(
-    r"workqueue_(?:execute_)?(queue|start|end)(?:_work)?: work struct[= ](?:0x)?([0-9a-f]+|\(\w+\))"
+    r"workqueue_(?:execute_)?(queue|start|end)(?:_work)?: work struct[= ](?:0x)?([0-9a-f]+|\(\w+\))(?!\w)"
     r"(?=(?:.*?function[= ](.*?)(?: workqueue=|$))?)(?:.* workqueue=(.*) req_cpu=)?"
 )
+# the name of one of these events where a line has that: in front, behind a time, or behind the group that perf prints
+EVENT_NAME = re.compile(r"(?:^|[^a-zA-Z_]:\s+|\)\s+|(?<!\S)workqueue:)workqueue_(?:queue_work|execute_start|execute_end):(?!\S)")
 TASK = re.compile(r"(\d+)\s+(?:\([-\s\d]*\)\s+)?\[\d+\]")
 LOST = re.compile(r"\[LOST (?:\d+ )?EVENTS\]|\[(?:\d+ )?EVENTS DROPPED\]|PERF_RECORD_LOST|entries-written: (?!(\d+)/\1\b)")
 
@@ -79,7 +81,12 @@ class Queue:
     def mark(self, line):
         if LOST.search(line):
             raise Lost("events were lost")
-        event, task = EVENT.search(line), TASK.search(line)
+        if not line.endswith("\n"):
+            raise Lost("a line that is cut off")
+        event, task = EVENT.search(line.strip()), TASK.search(line)
+        has_no_queue = event and event[1] == "queue" and event[4] is None
+        if has_no_queue or not event and EVENT_NAME.search(line.strip()):
+            raise Lost("a line that is not understood")
         if not event or "wq_barrier_func" in line:
             return "#"
         word, address, function, name = event.groups(default="")
@@ -109,8 +116,8 @@ def write_marks(lines, name, to, kept):
     queue, at = Queue(name), 0
     print(f"trace 1\nitems {ITEMS}", file=to)
     try:
-        for at, line in enumerate(map(str.strip, lines), 1):
-            kept.append((at, queue.mark(line), line))
+        for at, line in enumerate(lines, 1):
+            kept.append((at, queue.mark(line), line.strip()))
             print(kept[-1][1], file=to, flush=kept[-1][1] != "#")
         why = queue.unseen()
     except Lost as lost:
