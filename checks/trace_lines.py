@@ -140,6 +140,13 @@ ROWS = [
         "a barrier of flush_work, also at the address of a work",
         [(queued("aa"), "queue 0"), (started("aa", "wq_barrier_func"), "#"), (ended("aa", "wq_barrier_func"), "#"), *runs("aa", 0)],
     ),
+    (
+        "what looks like a barrier and is none",
+        [
+            (queued("aa", function="my_wq_barrier_func"), "queue 0"),
+            (started("aa", "my_wq_barrier_func").replace("kworker/u8:1", "wq_barrier_func"), "start 0"),
+        ],
+    ),
     ("a work that runs twice, and twice at once", [*whole("aa", 0), (started("aa"), "start 0"), (started("aa"), "start 0")]),
     (
         "a work that goes to another queue, and comes back",
@@ -270,8 +277,10 @@ MANY += [*whole("e", 0), *whole("f", 2), *whole("c", 3), *whole("b", 1), *whole(
 BUSY = [(queued("a"), "queue 0"), (started("a"), "start 0"), (queued("b"), "queue 1"), *whole("c", 2), *whole("d", 3)]
 BUSY += [(queued("e"), "queue 2"), (queued("f"), "queue 3"), (queued("10"), "lost")]
 
+# each event, of another queue
+ELSEWHERE = [queued("ee", "elsewhere"), started("ee"), ended("ee")]
 OVERTAKES = [queued("aa"), queued("bb"), queued("aa"), started("bb")]
-OVERLAPS = [*OVERTAKES[:3], started("aa"), started("bb")]
+OVERLAPS = [*OVERTAKES[:3], started("aa"), started("bb"), *ELSEWHERE]
 TWICE = [queued("aa"), started("aa"), ended("aa"), queued("aa"), queued("bb"), queued("aa"), "# the end"]
 LOST = "CPU:2 [LOST 120 EVENTS]"
 
@@ -279,6 +288,27 @@ LOST = "CPU:2 [LOST 120 EVENTS]"
 def at(number, lines, what=""):
     return f"{what}line {number}: {lines[number - 1].strip()}\n"
 
+
+# an event that was not recorded, and lines that a right queue leaves then
+UNRECORDED = [
+    ("execute_end", [queued("aa"), started("aa"), queued("bb"), started("bb")]),
+    ("execute_end", [queued("aa"), started("aa"), queued("bb"), queued("bb"), started("bb")]),
+    ("execute_end", [*ELSEWHERE[:2], queued("aa"), started("aa")]),
+    ("execute_start", [queued("aa"), ended("aa"), queued("aa"), ended("aa"), queued("aa"), ended("aa")]),
+    ("execute_start", [queued("aa"), queued("bb")]),
+]
+# how many lines are written when the next one is read: what would look wrong without an event waits until that was seen
+WRITTEN = [
+    ("# a comment", 1),
+    (queued("aa"), 2),
+    (queued("aa"), 2),
+    ("# a comment", 2),
+    (started("aa"), 5),
+    (queued("aa"), 5),
+    (ended("ee"), 7),
+    (queued("bb"), 8),
+    ("# a comment", 9),
+]
 
 # the lines, the status or what is said in place of a verdict, the first line of that, and the lines of the trace that are printed
 VERDICTS = [
@@ -298,6 +328,14 @@ VERDICTS = [
         4,
         "not legal",
         at(4, OVERTAKES) + at(1, OVERTAKES, "queue 0, "),
+    ),
+    *[(f"{event} was not recorded", lines, f"this trace has no line of workqueue_{event}", "", "") for event, lines in UNRECORDED],
+    (
+        "what looks like an overlap, no end before it, and a loss",
+        [*OVERLAPS[:5], LOST],
+        "line 6: events were lost, and nothing can be said from there on",
+        "",
+        "",
     ),
     ("a loss", [*TWICE[:3], LOST], "line 4: events were lost, and nothing can be said from there on", "", ""),
     (
@@ -333,6 +371,7 @@ VERDICTS = [
 ]
 
 LEGAL = "".join(f"{line}\n" for line in TWICE[:3]).encode()
+NO_END = "".join(f"{line}\n" for line in UNRECORDED[0][1]).encode()
 CUT = queued("bb").partition("ne req_cpu=")[0].encode()
 STRANGE = b"".join(line.encode().replace(b"kworker", b"\xff\r\xe2\x82\xac") + b"\n" for line in OVERTAKES)
 # words, what is read, how the shell begins, the status, and what stands in the output
@@ -341,6 +380,7 @@ WORDS = [
     ("--check --drained mine", LEGAL + CUT, "", 1, "line 4: a line that is cut off, and nothing can be said from there on\n"),
     ("mine", LEGAL + CUT, "", 1, "end 0\nlost\nline 4: a line that is cut off"),
     ("mine", LEGAL[:-1], "", 1, "start 0\nlost\nline 3: a line that is cut off"),
+    ("mine", NO_END, "", 1, "items 65536\nqueue 0\nstart 0\nlost\nthis trace has no line of workqueue_execute_end\n"),
     ("--check mine", LEGAL, ">/dev/full", 1, "No space left on device"),
     ("--check mine", LEGAL, ">&-", 1, "output: Unwritable"),
     ("mine", LEGAL, ">/dev/full", 1, "No space left on device"),
@@ -398,9 +438,22 @@ class Converter:
 def hold_marks(converter):
     converter.module.ITEMS = ITEMS
     for shows, lines in [*ROWS, ("more works than numbers", MANY), ("works that are not idle", BUSY)]:
+        lines = [*((line, "#") for line in ELSEWHERE), *lines]
         written, why = converter.marks(line for line, _ in lines if line is not END)
         wanted = ["trace 1", f"items {ITEMS}", *(mark for _, mark in lines)]
         converter.hold(shows, (written, bool(why)), (wanted, wanted[-1] == "lost"))
+
+
+def hold_written(converter):
+    to, written = io.StringIO(), []
+
+    def lines():
+        for line, _ in WRITTEN:
+            yield f"{line}\n"
+            written.append(to.getvalue().count("\n") - 2)
+
+    converter.module.write_marks(lines(), "mine", to, deque())
+    converter.hold("what is written while the lines come", written, [count for _, count in WRITTEN])
 
 
 WORKERS = {"mine": 57, "other": 58, "third": 59}
@@ -460,7 +513,7 @@ def hold_kernels(converter):
 def hold_burst(converter):
     """Many works that wait at once take no longer each than a few: 60,000 some half a second."""
     converter.module.ITEMS, began = 65536, time.process_time()
-    written, why = converter.marks(queued(f"{work:x}") for work in range(60000))
+    written, why = converter.marks([*ELSEWHERE, *(queued(f"{work:x}") for work in range(60000))])
     converter.hold("a burst", (written[-1], why, time.process_time() - began < 10), ("queue 59999", None, True))
 
 
@@ -488,6 +541,7 @@ def main(program=None):
     # an output that cannot be written is found as late as it is by default
     os.environ.pop("PYTHONUNBUFFERED", None)
     hold_marks(converter)
+    hold_written(converter)
     hold_kernels(converter)
     hold_burst(converter)
     with tempfile.TemporaryDirectory() as folder:

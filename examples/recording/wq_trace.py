@@ -16,6 +16,9 @@ from collections import OrderedDict, deque
 from contextlib import suppress
 
 ITEMS, KEPT, NAMED = 65536, 1 << 17, 8
+EVENTS = {"queue": "queue_work", "start": "execute_start", "end": "execute_end"}
+# behind a mark of the first a right queue looks wrong where the second is not recorded
+NEEDS = {"queue": {"start"}, "start": {"end"}}
 EVENT = re.compile(
     r"workqueue_(?:execute_)?(queue|start|end)(?:_work)?: work struct[= ](?:0x)?([0-9a-f]+|\(\w+\))(?!\w)"
     r"(?=(?:.*?function[= ](.*?)(?: workqueue=|$))?)(?:.* workqueue=(.*) req_cpu=)?"
@@ -65,7 +68,7 @@ class Queue:
     them those of idle works, each with its address: the one that is idle longest comes first."""
 
     def __init__(self, name):
-        self.name, self.names, self.works, self.numbers = name, set(), {}, {}
+        self.name, self.names, self.words, self.works, self.numbers = name, set(), set(), {}, {}
         self.free = OrderedDict.fromkeys(range(ITEMS))
 
     def number(self, address):
@@ -87,12 +90,15 @@ class Queue:
         has_no_queue = event and event[1] == "queue" and event[4] is None
         if has_no_queue or not event and EVENT_NAME.search(line.strip()):
             raise Lost("a line that is not understood")
-        if not event or "wq_barrier_func" in line:
+        if not event:
             return "#"
         word, address, function, name = event.groups(default="")
+        self.words.add(word)
+        self.names.update([name] * (word == "queue"))
+        if function.startswith("wq_barrier_func"):
+            return "#"
         if address.startswith("("):
             raise Lost(f"the addresses of the works are hidden: {address}")
-        self.names.update([name] * (word == "queue"))
         work = self.works.setdefault(address, Work())
         is_here = getattr(work, word)(function, name, task and task[1]) == self.name
         if not (work.waits or work.runs or work.last == self.name):
@@ -105,20 +111,29 @@ class Queue:
         return f"{word} {number}"
 
     def unseen(self):
-        """Why nothing can be said of a trace that has no line of this queue, or nothing."""
+        """Why nothing can be said of a trace that has no line of this queue, or none of one of the events; or nothing."""
+        unseen = [f"this trace has no line of workqueue_{event}" for word, event in EVENTS.items() if word not in self.words]
+        if self.name in self.names:
+            return unseen[0] if unseen else None
         names = ", ".join([*sorted(self.names)[:20], *["..."] * (len(self.names) > 20)])
-        others = f"the queues of this trace are {names}" if names else "this trace has no line of workqueue_queue_work"
-        return None if self.name in self.names else f"nothing was queued on {self.name}: {others}"
+        return f"nothing was queued on {self.name}: " + (f"the queues of this trace are {names}" if self.names else unseen[0])
 
 
 def write_marks(lines, name, to, kept):
-    """Writes a line for each line, and keeps the last of them, until nobody reads on; answers why there can be no verdict, if so."""
-    queue, at = Queue(name), 0
+    """Writes a line for each line, and keeps the last of them, until nobody reads on; answers why there can be no verdict, if so. What
+    a right queue may look wrong by, were an event not recorded, is held back until that event was seen, of any work."""
+    queue, at, held, needs = Queue(name), 0, [], set()
     print(f"trace 1\nitems {ITEMS}", file=to)
     try:
         for at, line in enumerate(lines, 1):
-            kept.append((at, queue.mark(line), line.strip()))
-            print(kept[-1][1], file=to, flush=kept[-1][1] != "#")
+            mark = queue.mark(line)
+            kept.append((at, mark, line.strip()))
+            held.append(mark)
+            if needs <= queue.words:
+                for it in held:
+                    print(it, file=to, flush=it != "#")
+                held.clear()
+            needs |= NEEDS.get(mark.split()[0], set())
         why = queue.unseen()
     except Lost as lost:
         why = f"line {at}: {lost}, and nothing can be said from there on"
