@@ -88,7 +88,8 @@ class Queue:
             raise Lost("a line that is cut off")
         event, task = EVENT.search(line.strip()), TASK.search(line)
         has_no_queue = event and event[1] == "queue" and event[4] is None
-        if has_no_queue or not event and EVENT_NAME.search(line.strip()):
+        # the first test is quick, and most lines of a long trace may be of other events
+        if has_no_queue or not event and "workqueue_" in line and EVENT_NAME.search(line.strip()):
             raise Lost("a line that is not understood")
         if not event:
             return "#"
