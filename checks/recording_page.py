@@ -109,7 +109,7 @@ fn main() {
 def compilers():
     """Yields each language of the page: its name, the program around its lines, its file's ending, and the words that compile it."""
     yield "C", C, "c", [os.environ.get("CC", "cc"), "-O2", "-Wall", "-Wextra", "-pthread"]
-    yield "Rust", RUST, "rs", ["rustc", "--edition", "2024", "-O"]
+    yield "Rust", RUST, "rs", ["rustc", "--edition", "2021", "-O"]
 
 
 def lines_of(page, language):
