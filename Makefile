@@ -61,7 +61,7 @@ rows: build
 definitions:
 	checks/definitions.py
 
-# The library for C, tested from C, C++, Rust and Python, as the gate does; two minutes once it is proved.
+# The library for C, tested from C, C++, Rust and Python, as the gate does; three minutes once it is proved.
 c-api: build
 	checks/c_api.sh $(PROGRAM)
 
