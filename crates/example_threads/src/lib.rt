@@ -6,8 +6,10 @@ mod executing;
 mod one_worker;
 mod queueing;
 mod running;
+mod served;
 
 pub use executing::execute_all;
 pub use one_worker::{Runs, queue_and_destroy};
 pub use queueing::Told;
 pub use running::{Met, run};
+pub use served::{Served, Unserved, run_served};

@@ -25,7 +25,7 @@ fn wake(answer: Answer, unparker: &Unparker) {
 }
 
 /// The list with the number, if the answer is `Queued`.
-fn tell(queued: Trail, number: u32, answer: Answer) -> Trail
+pub(crate) fn tell(queued: Trail, number: u32, answer: Answer) -> Trail
     ensures told { result.items ≡ queued.items ++ queued_number number answer }
 {
     match answer {

@@ -1,0 +1,251 @@
+//! A worker that serves in a thread of its own, and beside it two senders in theirs.
+ghost use Rattle.std.specs.Prelude.{◌≡◌, ◌+◌, ◌*◌, ◌<◌, ◌≤◌, ◌++◌, [], IfOk};
+ghost use Rattle.wq_worker.specs.History.{accepted, ended, IsShut};
+ghost use Rattle.wq_worker.specs.Legal.{IsLegal, IsComplete};
+ghost use Rattle.wq_worker.specs.Headline.{KeepsHeadline};
+ghost use Rattle.wq_worker.specs.Seen.{own};
+ghost use Rattle.wq_worker.specs.Known.{IsSame, new_sender};
+ghost use Rattle.wq_worker.specs.Laws.{queued_number};
+ghost use Rattle.wq_worker.specs.Book.{IsLedgerOf};
+ghost use Rattle.wq_worker.specs.State.{IsSameWorker, items_among};
+ghost use Rattle.example_threads.specs.Met.{TellsOwn};
+
+use crate::one_worker::Runs;
+use crate::queueing::{Told, tell};
+use crossbeam_utils::sync::{Parker, Unparker};
+use std::alloc::Global;
+use std::sync::Wait;
+use std::thread::{Threads, join};
+use trail::Trail;
+use wq_live::{Answer, Sender, queued_is_accepted};
+use wq_words::Layout;
+use wq_worker::{Book, Ledger, Totals, Unbalanced, Worker};
+
+/// The work and the book of a queue that was destroyed, its two senders, which have met the book, and the sums of all counts.
+#[derive(Drop)]
+pub struct Served {
+    pub work: Runs,
+    pub book: Book,
+    pub first: Told,
+    pub second: Told,
+    pub totals: Totals,
+}
+
+/// Why nothing was served to its end.
+#[derive(Clone, Copy, Debug, PartialEq, Eq)]
+pub enum Unserved {
+    /// Memory could not be had.
+    Memory,
+    /// So many numbers were left when the destroy came to its limit.
+    Left(u32),
+    /// The ledgers do not balance: a count is saturated.
+    Unbalanced(Unbalanced),
+}
+
+/// Wakes the worker, where the list was empty. A worker that serves never rests, so `wakes` says nothing of it.
+fn wake(answer: Answer, unparker: &Unparker) {
+    if let Answer::Queued { first: true, .. } = answer {
+        unparker.unpark();
+    }
+}
+
+/// One queueing. What was accepted of the sender grows by the item, if the answer is `Queued`.
+fn queue<R: Wait>(rt: &R, sender: &mut Sender, item: u32, unparker: &Unparker) -> Answer
+    requires item { item < sender.old.layout.items }
+    ensures same { IsSame sender.old sender.new }
+    ensures accepted { accepted (own sender.old.number sender.new.seen) ≡ accepted (own sender.old.number sender.old.seen) ++ queued_number item result }
+{
+    queued_is_accepted();
+    let answer = sender.queue(rt, item);
+    wake(answer, unparker);
+    answer
+}
+
+/// Queues these items in their order, once each.
+fn queue_own<R: Wait>(rt: &R, mut sender: Sender, from: u32, to: u32, unparker: &Unparker) -> Told
+    requires from { from ≤ to }
+    requires to { to ≤ sender.layout.items }
+    requires new { sender.seen ≡ [] }
+    ensures same { IsSame sender result.sender }
+    ensures accepted { accepted (own sender.number result.sender.seen) ≡ result.queued.items }
+{
+    let mut queued = Trail::new();
+    for item in from..to {
+        let answer = queue(rt, &mut sender, item, unparker);
+        queued = tell(queued, item, answer);
+    }
+    Told { sender, queued }
+}
+
+/// Queues the stop item, behind all that was queued.
+fn stop(told: Told, unparker: &Unparker) -> Told
+    requires accepted { accepted (own told.sender.number told.sender.seen) ≡ told.queued.items }
+    ensures same { IsSame told.sender result.sender }
+    ensures accepted { accepted (own told.sender.number result.sender.seen) ≡ result.queued.items }
+{
+    let Told { mut sender, queued } = told;
+    let number = sender.layout().stop();
+    queued_is_accepted();
+    let answer = sender.request_stop(u32::MAX);
+    wake(answer, unparker);
+    Told {
+        sender,
+        queued: tell(queued, number, answer),
+    }
+}
+
+/// Two senders queue so many items each, of their own, in two threads. When both have ended, the second queues the stop item.
+fn queue_both<R: Threads + Wait + Sync>(
+    rt: &R,
+    first: Sender,
+    second: Sender,
+    each: u32,
+    unparker: &Unparker,
+) -> (Told, Told)
+    requires items { (each * 2 ≤ first.layout.items) × (each * 2 ≤ second.layout.items) }
+    requires new { (first.seen ≡ []) × (second.seen ≡ []) }
+    ensures first { IsSame first result.0.sender × (accepted (own first.number result.0.sender.seen) ≡ result.0.queued.items) }
+    ensures second { IsSame second result.1.sender × (accepted (own second.number result.1.sender.seen) ≡ result.1.queued.items) }
+{
+    let (first, second) = join(
+        rt,
+        move ||
+            requires { (each * 2 ≤ first.layout.items) × (first.seen ≡ []) }
+            ensures { IsSame first result.sender × (accepted (own first.number result.sender.seen) ≡ result.queued.items) }
+        { queue_own(rt, first, 0, each, unparker) },
+        move ||
+            requires { (each * 2 ≤ second.layout.items) × (second.seen ≡ []) }
+            ensures { IsSame second result.sender × (accepted (own second.number result.sender.seen) ≡ result.queued.items) }
+        { queue_own(rt, second, each, each * 2, unparker) },
+    );
+    (first, stop(second, unparker))
+}
+
+/// Serves until the stop item ran.
+fn serve<R: Wait>(rt: &R, mut worker: Worker<Runs>, parker: &Parker) -> Worker<Runs>
+    requires open { ¬ IsShut worker.seen }
+    ensures same { IsSameWorker worker result }
+{
+    worker.serve(rt, parker);
+    worker
+}
+
+/// The sums of all counts.
+fn balance(book: &Book, one: Ledger, other: Ledger) -> Result<Totals, Unbalanced>
+    requires one { IsLedgerOf book.now.seen one }
+    requires other { IsLedgerOf book.now.seen other }
+    ensures { IfOk result (λ totals. totals.queued + totals.chained ≡ totals.executed) }
+{
+    book.balance([one, other].as_slice())
+}
+
+/// Destroys a worker that has served. Its senders meet the book, which then balances.
+fn finish(worker: Worker<Runs>, mut first: Told, mut second: Told) -> Result<Served, Unserved>
+    requires first { TellsOwn worker.queue 0 first }
+    requires second { TellsOwn worker.queue 1 second }
+    ensures layout { IfOk result (λ r. r.book.layout ≡ worker.layout) }
+    ensures legal { IfOk result (λ r. IsLegal r.book.layout r.book.seen) }
+    ensures complete { IfOk result (λ r. IsComplete r.book.seen) }
+    ensures headline { IfOk result (λ r. KeepsHeadline r.book.seen) }
+    ensures ended { IfOk result (λ r. ended r.book.seen ≡ accepted r.book.seen) }
+    ensures ran { IfOk result (λ r. r.work.ran.items ≡ items_among r.book.layout (accepted r.book.seen)) }
+    ensures first { IfOk result (λ r. TellsOwn r.book.queue 0 r.first) }
+    ensures second { IfOk result (λ r. TellsOwn r.book.queue 1 r.second) }
+    ensures of_first { IfOk result (λ r. accepted (own 0 r.book.seen) ≡ r.first.queued.items) }
+    ensures of_second { IfOk result (λ r. accepted (own 1 r.book.seen) ≡ r.second.queued.items) }
+    ensures balance { IfOk result (λ r. r.totals.queued + r.totals.chained ≡ r.totals.executed) }
+{
+    let (work, mut book) = match worker.destroy(u32::MAX) {
+        Ok(parts) => parts,
+        Err(unfinished) => return Err(Unserved::Left(unfinished.left)),
+    };
+    let one = book.meet(&mut first.sender);
+    let other = book.meet(&mut second.sender);
+    book.legal();
+    match balance(&book, one, other) {
+        Ok(totals) => Ok(Served {
+            work,
+            book,
+            first,
+            second,
+            totals,
+        }),
+        Err(fault) => Err(Unserved::Unbalanced(fault)),
+    }
+}
+
+/// The worker serves in a thread, and beside it the senders queue in theirs. When both have ended, the stop item follows.
+fn serve_beside<R: Threads + Wait + Sync>(
+    rt: &R,
+    worker: Worker<Runs>,
+    first: Sender,
+    second: Sender,
+    each: u32,
+    parker: Parker,
+    unparker: &Unparker,
+) -> (Worker<Runs>, (Told, Told))
+    requires items { each * 2 ≤ worker.layout.items }
+    requires open { ¬ IsShut worker.seen }
+    requires first { first ≡ new_sender worker.queue worker.layout 0 }
+    requires second { second ≡ new_sender worker.queue worker.layout 1 }
+    ensures same { IsSameWorker worker result.0 }
+    ensures first { TellsOwn result.0.queue 0 result.1.0 }
+    ensures second { TellsOwn result.0.queue 1 result.1.1 }
+{
+    join(
+        rt,
+        move ||
+            requires { ¬ IsShut worker.seen }
+            ensures { IsSameWorker worker result }
+        { serve(rt, worker, &parker) },
+        move ||
+            requires { (each * 2 ≤ first.layout.items) × (each * 2 ≤ second.layout.items) × (first.seen ≡ []) × (second.seen ≡ []) }
+            ensures { IsSame first result.0.sender × (accepted (own first.number result.0.sender.seen) ≡ result.0.queued.items)
+                × IsSame second result.1.sender × (accepted (own second.number result.1.sender.seen) ≡ result.1.queued.items) }
+        { queue_both(rt, first, second, each, unparker) },
+    )
+}
+
+/// The same on a new queue, with so many items of each sender. Where it is Ok all that was accepted ran, in its order and once:
+/// of each sender what it was answered `Queued` for, in its order. Nothing is left, and the book balances.
+pub fn run_served<R: Threads + Wait + Sync>(
+    rt: &R,
+    alloc: Global,
+    layout: Layout,
+    each: u32,
+) -> Result<Served, Unserved>
+    requires items { each * 2 ≤ layout.items }
+    requires senders { layout.senders ≡ 3 }
+    ensures layout { IfOk result (λ r. r.book.layout ≡ layout) }
+    ensures legal { IfOk result (λ r. IsLegal r.book.layout r.book.seen) }
+    ensures complete { IfOk result (λ r. IsComplete r.book.seen) }
+    ensures headline { IfOk result (λ r. KeepsHeadline r.book.seen) }
+    ensures ended { IfOk result (λ r. ended r.book.seen ≡ accepted r.book.seen) }
+    ensures ran { IfOk result (λ r. r.work.ran.items ≡ items_among r.book.layout (accepted r.book.seen)) }
+    ensures first { IfOk result (λ r. TellsOwn r.book.queue 0 r.first) }
+    ensures second { IfOk result (λ r. TellsOwn r.book.queue 1 r.second) }
+    ensures of_first { IfOk result (λ r. accepted (own 0 r.book.seen) ≡ r.first.queued.items) }
+    ensures of_second { IfOk result (λ r. accepted (own 1 r.book.seen) ≡ r.second.queued.items) }
+    ensures balance { IfOk result (λ r. r.totals.queued + r.totals.chained ≡ r.totals.executed) }
+{
+    let Ok(parker) = Parker::new(alloc) else {
+        return Err(Unserved::Memory);
+    };
+    let Ok(unparker) = parker.unparker().clone() else {
+        return Err(Unserved::Memory);
+    };
+    let work = Runs { ran: Trail::new() };
+    let Ok((worker, mut senders)) = Worker::build(alloc, layout, work, 1) else {
+        return Err(Unserved::Memory);
+    };
+    let Some(second) = senders.pop() else {
+        unreachable!()
+    };
+    let Some(first) = senders.pop() else {
+        unreachable!()
+    };
+    let (worker, (first, second)) = serve_beside(
+        rt, worker, first, second, each, parker, &unparker,
+    );
+    finish(worker, first, second)
+}
