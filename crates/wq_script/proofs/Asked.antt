@@ -1,11 +1,13 @@
 -- What a sender asked for, and what it was answered.
-use Rattle.wq_script.proofs.Common.{◌≡◌, ℕ, ◌<◌, Bool, true, false, List, [], ◌∷◌, ◌++◌, Some, None, nat_lt, length, get_or, set, refl, sym, ap, ◌∙◌, subst}
+use Rattle.wq_script.proofs.Common.{◌≡◌, ℕ, ◌<◌, Bool, true, false, not, ◌&&◌, List, [], ◌∷◌, ◌++◌, Some, None, nat_lt, length, get_or, set, refl, sym, ap, ◌∙◌, subst}
 use Rattle.wq_script.proofs.Common.{arith, append_assoc, if◌then◌else◌, append-nil, get_or-set_same, Layout, Event, Hold, Busy, Push, Back, Close, pending}
 use Rattle.wq_script.proofs.Common.{closed, first, fresh, owner_seat, wakes, closed_count, Answer, Known, Sees, Answers, IsPushed, TakesAll, WorkerState, Moves}
 use Rattle.wq_script.proofs.Common.{shut, HasMetDrain, draining, queue_events, queue_answer, close_events, close_answer, Lists, Seats, Gathers, Seated, Asks}
 use Rattle.wq_script.proofs.Common.{Reaches}
 use Rattle.wq_words.specs.declared.event.Why.TheVariants as why
+use Rattle.wq_words.proofs.Closed.{shut_from_IsShut, shut_from_open, IsShut_from_shut, open_from_shut}
 use Rattle.wq_words.proofs.Rest.{wakes_quiet}
+use Rattle.wq_words.proofs.ShutOwn.{shut_same}
 use Rattle.wq_words.specs.declared.answer.Answer.TheVariants as answer
 use Rattle.wq_script.proofs.Seated.{Acts, with_sender, sender_acts, worker_acts}
 use Rattle.wq_script.proofs.Queueings.{busy_events, push_events, refused_events, drained_events, queue_says, not_closed, not_draining, last_own}
@@ -112,6 +114,16 @@ sender_looked layout s t h p x z g lt is sees all =
 
 pub worker_closed : (layout : Layout) (s : Seats) (h : List Event) → Seated layout s h → closed s.worker.seen ≡ closed h
 worker_closed layout s h g = ap (λ (n : ℕ). nat_lt 0 n) (closed_count h s.worker.seen g.owner.mine)
+
+pub worker_draining : (layout : Layout) (s : Seats) (h : List Event) → Seated layout s h → draining s.worker.seen ≡ draining h
+worker_draining layout s h g = λ i. shuts (shut h) refl i && not (worker_closed layout s h g i)
+  where
+    v : List Event
+    v = s.worker.seen
+
+    shuts : (b : Bool) → shut h ≡ b → shut v ≡ shut h
+    shuts true is = shut_from_IsShut v (shut_same h v g.owner.mine (IsShut_from_shut h is)) ∙ sym is
+    shuts false is = shut_from_open v (λ so. open_from_shut h is (shut_same v h (sym g.owner.mine) so)) ∙ sym is
 
 -- the worker closed the queue
 pub worker_closes : (layout : Layout) (s t : Seats) (h : List Event) (w : WorkerState Lists) (taken : ℕ) → Seated layout s h → closed s.worker.seen ≡ false

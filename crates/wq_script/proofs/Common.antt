@@ -2,7 +2,7 @@
 pub use Rattle.arrayvec.specs.ArrayVec.{ArrayVec}
 pub use mathlib.Core.List.{IsPrefix}
 pub use Rattle.std.specs.List.{AllByRecursion, before_last, AllZip}
-pub use Rattle.std.specs.Prelude.{filter, IsTrue, ◌↔◌, slice_get, MatchBool, MatchOption}
+pub use Rattle.std.specs.Prelude.{filter, IfOk, IsTrue, ◌↔◌, slice_get, MatchBool, MatchOption}
 pub use Rattle.std.specs.Vec.{with_item}
 pub use Rattle.std.proofs.Common.{◌≡◌, ℕ, ◌<◌, ◌≤◌, ◌⊎◌, Bool, true, false, cond, not, List, [], ◌∷◌, ◌++◌, length, inl, inr, refl, sym, ap, ◌∙◌, subst, arith}
 pub use Rattle.std.proofs.Common.{append_assoc, eq-eqb, ◌≢◌, ◌+◌, ◌&&◌, ◌||◌, ◌==◌, map, if◌then◌else◌, count_by, Some, None, nat_lt, get_or, set, suc, ◌-◌}
@@ -16,7 +16,7 @@ pub use Rattle.std.proofs.lemmas.Option.{slice_get_within, slice_get_cases, slic
 pub use Rattle.wq_words.specs.Armed.{armed_of, modified_of}
 pub use Rattle.wq_words.specs.Counting.{is_busy, is_refusal, is_queued_by, is_pending_by, is_closed_by, is_draining_by, is_chain, is_chain_busy}
 pub use Rattle.wq_words.specs.DelayTable.{DelayTable, on_table, is_too_far, Entry, items, due_part, table_without, table_at}
-pub use Rattle.wq_words.specs.History.{is_cut, IsShut, IsDraining}
+pub use Rattle.wq_words.specs.History.{is_cut, IsClosed, IsShut, IsDraining}
 pub use Rattle.wq_words.specs.History.{pending, closed, shut, first, is_push, fresh, accepted, begun, next, taken, is_close, Holds, ended, IsRunning}
 pub use Rattle.wq_words.specs.Legal.{IsLegal, HasSeat}
 pub use Rattle.wq_words.specs.Numbers.{barrier_number, stop_number}
@@ -39,7 +39,7 @@ pub use Rattle.wq_live.proofs.Seated.{length-new_senders, get_or-new_senders, ma
 pub use Rattle.wq_worker.specs.Follow.{Queues, Follows, passed, pushed, busy, chained, chain_busy}
 pub use Rattle.wq_worker.specs.Seats.{Adds, taking, taking_of, NothingWaits, at_take, at_all}
 pub use Rattle.wq_worker.specs.State.{WorkerState, Moves}
-pub use Rattle.wq_delay.specs.Delay.{DelayState, IsFit, Arms, KeepsTable, IsOut, is_back, Cancels, Rearms, ArmsAnew, Modifies, PostsDue}
+pub use Rattle.wq_delay.specs.Delay.{DelayState, IsFit, Arms, KeepsTable, IsOut, Cancels, Rearms, ArmsAnew, Modifies, PostsDue}
 pub use Rattle.wq_text.specs.declared.command.Command.{Command}
 pub use Rattle.wq_meaning.specs.Answer.{answer_text, armed_text, close_text, modified_text}
 pub use Rattle.wq_meaning.specs.Arming.{queues_now, arm_events, arm_answer, cancel_events, modify_events, modify_answer, posted_items, advance_events}

@@ -1,14 +1,12 @@
 -- Cancellings, modifications and advances of a delay table, and what they are in a script.
-use Rattle.wq_script.proofs.Common.{◌≡◌, ℕ, ◌+◌, Bool, true, false, cond, ◌==◌, List, [], ◌∷◌, ◌++◌, length, map, take, inl, inr, refl, sym, ap, ◌∙◌, subst}
+use Rattle.wq_script.proofs.Common.{◌≡◌, ℕ, ◌+◌, Bool, true, false, cond, ◌==◌, List, [], ◌∷◌, ◌++◌, map, inl, inr, refl, sym, ap, ◌∙◌, subst}
 use Rattle.wq_script.proofs.Common.{arith}
-use Rattle.wq_script.proofs.Common.{append_assoc, count_by, false≢true, if◌then◌else◌, MatchBool, IsTrue, ◌↔◌, AllZip, append-nil, Layout, Event, Push, Back}
-use Rattle.wq_script.proofs.Common.{closed, shut, is_push, IsLegal, legal_next, owner_seat, seat_of, own, count_by-append, Armed, Modified, modified_of}
+use Rattle.wq_script.proofs.Common.{append_assoc, false≢true, if◌then◌else◌, MatchBool, IsTrue, ◌↔◌, AllZip, append-nil, Layout, Event, Push, Back}
+use Rattle.wq_script.proofs.Common.{closed, shut, IsLegal, legal_next, owner_seat, seat_of, own, Armed, Modified, modified_of}
 use Rattle.wq_script.proofs.Common.{DelayTable, Entry, items, on_table, due_part, is_too_far, table_without, table_at, HasMetDrain, DelayState, IsFit, IsOut}
-use Rattle.wq_script.proofs.Common.{is_back, Arms, Cancels, Rearms, ArmsAnew, Modifies, PostsDue, draining, post_event, post_events, post_table, post_answer}
-use Rattle.wq_script.proofs.Common.{cancel_events, modify_events, modify_table, modify_answer, posted_items, advance_events, advance_table, Seats, Gathers}
+use Rattle.wq_script.proofs.Common.{Arms, Cancels, Rearms, ArmsAnew, Modifies, PostsDue, draining, post_event, post_events, post_table, post_answer}
+use Rattle.wq_script.proofs.Common.{cancel_events, modify_events, modify_table, modify_answer, advance_events, advance_table, Seats, Gathers}
 use Rattle.wq_script.proofs.Common.{Seated, GoesWithTable}
-use Rattle.std.proofs.Math.Seq.{take-append_seam}
-use Rattle.std.proofs.lemmas.List.{length-map, map-append}
 use Rattle.wq_words.specs.declared.event.Why.TheVariants as why
 use Rattle.wq_words.proofs.Closed.{closed_from_IsClosed, closed_push_no, shut_from_open}
 use Rattle.wq_words.specs.declared.answer.Armed.TheVariants as armed
@@ -77,6 +75,10 @@ none_out wide p (e ∷ gone) (x ∷ es) h out legal drains =
     ] in
     absurd (false≢true (sym off ∙ drains))
 
+-- the items that an advance posts, by whether the queue drains
+abbrev pub posted_where : ℕ → DelayTable → Bool → List ℕ
+posted_where tick t drains = if drains then [] else items (due_part tick t.entries)
+
 -- what goes out of the table is of its sender, and is pushed or given back
 module _ (p : ℕ) (off : (p == owner_seat) ≡ false) where
   out_seat : (e : Entry) (x : Event) → IsOut p e x → (seat_of x == owner_seat) ≡ false
@@ -89,17 +91,6 @@ module _ (p : ℕ) (off : (p == owner_seat) ≡ false) where
   out_own (e ∷ gone) [] out = absurd out
   out_own (e ∷ gone) (x ∷ es) out =
       ap (λ (b : Bool). cond b (x ∷ own owner_seat es) (own owner_seat es)) (out_seat e x out.0) ∙ out_own gone es out.1
-
-out_one : (p : ℕ) (e : Entry) (x : Event) → IsOut p e x → count_by is_push (x ∷ []) + count_by is_back (x ∷ []) ≡ 1
-out_one p e x (inl push) = ap (λ (y : Event). count_by is_push (y ∷ []) + count_by is_back (y ∷ [])) push
-out_one p e x (inr back) = ap (λ (y : Event). count_by is_push (y ∷ []) + count_by is_back (y ∷ [])) back
-
-out_count : (p : ℕ) (gone : List Entry) (es : List Event) → AllZip (IsOut p) gone es → count_by is_push es + count_by is_back es ≡ length gone
-out_count p [] [] out = refl
-out_count p [] (x ∷ es) out = absurd out
-out_count p (e ∷ gone) [] out = absurd out
-out_count p (e ∷ gone) (x ∷ es) out =
-    omega (arith, out_one p e x out.0, out_count p gone es out.1, count_by-append is_push (x ∷ []) es, count_by-append is_back (x ∷ []) es)
 
 module _ (layout : Layout) (s t : Seats) (h : List Event) (g : Seated layout s h) (d : DelayState)
     (gathered : Gathers d.sender.seen (record { worker = s.worker; delay = d; senders = s.senders }) t) (fit : IsFit s.delay) where
@@ -246,17 +237,10 @@ module _ (layout : Layout) (s t : Seats) (h : List Event) (g : Seated layout s h
         let all : due ≡ posts.gone = posts.due_is ∙ (ap (λ (x : List Entry). posts.gone ++ x) none ∙ append-nil posts.gone) in
         (sym (ap items all), none)
 
-    pub advanced_so : (take (pushed + refused) (items due) ≡ posted_items tick h s.delay.table)
-        × GoesWithTable layout (h ++ advance_events p tick h s.delay.table) (advance_table tick h s.delay.table) s t
+    pub advanced_so : GoesWithTable layout (h ++ advance_events p tick h s.delay.table) (advance_table tick h s.delay.table) s t
     advanced_so =
         let parts = parted (draining h) refl in
         let events = posted_all acted.seated.wide p (closed h) posts.gone posts.events h out refl acted.seated.legal in
         let table : d.table ≡ advance_table tick h s.delay.table =
         posts.table_is ∙ ap (λ (x : List Entry). table_at tick x s.delay.table) parts.1 in
-        let many : pushed + refused ≡ length (items posts.gone) =
-        omega (arith, posts.pushed_is, posts.refused_is, out_count p posts.gone posts.events out, length-map posts.gone (λ (e : Entry). e.item)) in
-        let split : items due ≡ items posts.gone ++ items posts.left =
-        ap items posts.due_is ∙ map-append (λ (e : Entry). e.item) posts.gone posts.left in
-        let first : take (pushed + refused) (items due) ≡ items posts.gone =
-        (λ i. take (many i) (split i)) ∙ take-append_seam (items posts.gone) (items posts.left) in
-        (first ∙ parts.0, goes_with layout s t h g d gathered posts.events _ _ acted.seated (events ∙ ap (map (post_event p h)) parts.0) table)
+        goes_with layout s t h g d gathered posts.events _ _ acted.seated (events ∙ ap (map (post_event p h)) parts.0) table

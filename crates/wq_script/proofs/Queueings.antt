@@ -1,7 +1,7 @@
 -- What a queueing was, by the history that it led to.
 use Rattle.wq_script.proofs.Common.{◌≡◌, ℕ, ◌+◌, ◌-◌, ◌<◌, Bool, true, false, not, ◌&&◌, cond, ◌==◌, List, [], ◌∷◌, ◌++◌, length, take, drop, arith, inl, inr}
 use Rattle.wq_script.proofs.Common.{◌⊎◌, refl, sym, ap, ◌∙◌, subst, append_assoc, if◌then◌else◌, lt-ltb, le-ltb, ne_eqb, Layout, Event, Hold, Busy, Push, Back}
-use Rattle.wq_script.proofs.Common.{pending, closed, shut, IsDraining, first, wakes, IsLegal, legal_next, owner_seat, seat_of, own, own-append, own_one}
+use Rattle.wq_script.proofs.Common.{IsTrue, ◌↔◌, pending, closed, shut, IsClosed, IsShut, IsDraining, first, wakes, IsLegal, legal_next, owner_seat, seat_of, own, own-append, own_one}
 use Rattle.wq_script.proofs.Common.{own_same, Answer, HasMetDrain, draining, queue_events, fresh-more, left_nil, right_nil}
 use Rattle.std.proofs.Math.Seq.{take-append-add}
 use Rattle.std.proofs.lemmas.List.{take-append-drop}
@@ -9,7 +9,7 @@ use Rattle.wq_words.specs.History.{IsPending}
 use Rattle.wq_words.specs.declared.answer.Answer.TheVariants as answer
 use Rattle.wq_words.specs.declared.event.Why.TheVariants as why
 use Rattle.wq_words.proofs.Closed.{closed_from_open, closed_from_IsClosed, closed_push_no, closed_shuts, shut_from_IsShut, shut_from_open, open_from_shut}
-use Rattle.wq_words.proofs.Closed.{shut_quiet}
+use Rattle.wq_words.proofs.Closed.{shut_quiet, open_from_closed}
 use Rattle.wq_words.proofs.Seen.{closed_same}
 use Rattle.wq_words.proofs.ShutOwn.{shut_same}
 
@@ -40,6 +40,15 @@ module _ (h : List Event) where
       let c : closed h ≡ false = closed_from_open h is.1 in
       let s : shut h ≡ true = shut_from_IsShut h is.0 in
       (c, λ i. s i && not (c i))
+
+-- the answer of a seat that knows whether the queue drains
+pub drains_as : (h : List Event) (b : Bool) → (IsTrue b ↔ IsDraining h) → (b ≡ false → ¬ IsClosed h → ¬ IsShut h) → b ≡ draining h
+drains_as h true is else_open = sym (does_drain h (is.0 refl)).1
+drains_as h false is else_open = each (closed h) refl
+  where
+    each : (c : Bool) → closed h ≡ c → false ≡ draining h
+    each true closes = sym (closed_not_draining h closes)
+    each false opens = sym (not_draining h (shut_from_open h (else_open refl (open_from_closed h opens))))
 
 -- a number that is no sender's
 pub no_owner : (layout : Layout) (s : ℕ) → s < layout.senders → (s == owner_seat) ≡ false

@@ -212,13 +212,13 @@ impl Engine {
         Ok(())
     }
 
-    fn advance(&mut self, tick: u64, out: &mut String) -> Result<(), AllocError>
+    fn advance(&mut self, alloc: Global, tick: u64, out: &mut String) -> Result<(), AllocError>
         requires fits { Fits self.old.layout (Command.Advance tick) }
         requires ready { HasStateWithin (2 ^ 60) self.old }
         ensures { OnOk result (Does self.old self.new (string_bytes out.old) (string_bytes out.new) (Command.Advance tick)) }
     {
         let is_closed = self.seats.is_closed();
-        let Some(posted) = self.seats.advance(tick)? else {
+        let Some(posted) = self.seats.advance(alloc, tick)? else {
             write_line("false backwards", out)?;
             return Ok(());
         };
@@ -276,7 +276,7 @@ impl Engine {
             Command::Arm { item, delay } => self.arm(*item, *delay, out),
             Command::Cancel(item) => self.cancel(*item, out),
             Command::Modify { item, delay } => self.modify(*item, *delay, out),
-            Command::Advance(tick) => self.advance(*tick, out),
+            Command::Advance(tick) => self.advance(alloc, *tick, out),
         }
     }
 }

@@ -1,5 +1,6 @@
 //! All seats of a queue, and how each hears what one of them has seen.
 ghost use Rattle.std.specs.Prelude.{◌≡◌, ◌<◌, not, List, length, All, slice_index_or, IfOk, MatchOption, ◌+◌, ◌≤◌, [], replicate, slice_set};
+ghost use Rattle.wq_meaning.specs.Arming.{posted_items};
 ghost use Rattle.wq_meaning.specs.Execution.{no_follow};
 ghost use Rattle.wq_words.specs.declared.layout.Layout.{Layout};
 ghost use Rattle.wq_words.specs.declared.event.Event.{Event};
@@ -256,22 +257,33 @@ impl Seats {
         self.delay.has(item)
     }
 
+    // The items that an advance to this tick would post, in order: none while the queue drains.
+    fn posted_at(&self, alloc: Global, tick: u64) -> Result<Vec<u32>, AllocError>
+        ensures { IfOk result (λ posted. posted.items ≡ posted_items tick self.now.worker.seen self.now.delay.table) }
+    {
+        if self.worker.is_draining() {
+            return Ok(Vec::new(alloc));
+        }
+        self.delay.due_list(tick)
+    }
+
     // Sets the tick, and posts what is due, each with one try. The items that were posted, in order: none while the queue
     // drains. None where the tick is before the present one.
-    pub(crate) fn advance(&mut self, tick: u64) -> Result<Option<Vec<u32>>, AllocError>
+    pub(crate) fn advance(
+        &mut self,
+        alloc: Global,
+        tick: u64,
+    ) -> Result<Option<Vec<u32>>, AllocError>
         requires seated { HasHistory self.old }
         requires some { 0 < length self.old.senders.items }
         ensures { IfOk result (λ o. MatchOption o (IsBack tick self.old self.new) (λ posted. IsPosted tick posted.items self.old self.new)) }
     {
         self.delay.fit();
-        let mut due = self.delay.due_list(tick)?;
+        let posted = self.posted_at(alloc, tick)?;
         let advanced = self.delay.advance(tick, 1);
         self.gather(0);
         match advanced {
-            Ok(advance) => {
-                due.truncate(advance.pushed as usize + advance.refused as usize);
-                Ok(Some(due))
-            }
+            Ok(_) => Ok(Some(posted)),
             Err(Backwards) => Ok(None),
         }
     }

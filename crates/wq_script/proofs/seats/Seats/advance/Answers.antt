@@ -1,13 +1,15 @@
-use Rattle.wq_script.proofs.Common.{◌+◌, List, take, ap, ◌∙◌, subst, append-nil, Event, Seated}
+use Rattle.wq_script.proofs.Common.{◌∙◌, List, ap, subst, append-nil, Event, Seated}
+use Rattle.wq_script.proofs.Asked.{worker_draining}
 use Rattle.wq_script.proofs.Delayed.{goes_nowhere}
-use Rattle.wq_script.proofs.Moved.{advanced_so}
+use Rattle.wq_script.proofs.Moved.{posted_where, advanced_so}
 use Rattle.wq_script.proofs.seats.Seats.advance.Goals as goal
 
 pub returns-in-Ok : goal.returns-in-Ok
-returns-in-Ok c = λ layout h g. let told = c.in-Ok.ensures.answer in let a = c.in-Ok.advance in
+returns-in-Ok c = λ layout h g. let told = c.in-Ok.ensures.answer in
     let so = advanced_so layout c.args.self.now c.gather.new.self h g c.advance-advanced.new.self c.gather.ensures.delay c.fit.ensures.fit
-    c.args.tick a.pushed a.refused told.1 in
-    (told.0, c.truncate.ensures.items ∙ ap (take (a.pushed + a.refused)) c.in_ok-due.ensures.listed ∙ so.0, so.1)
+    c.args.tick _ _ told.1 in
+    let drains = worker_draining layout c.args.self.now h g in
+    (told.0, c.in_ok-posted.ensures ∙ ap (posted_where c.args.tick c.args.self.now.delay.table) drains, so)
 
 pub returns-in-Err : goal.returns-in-Err
 returns-in-Err c = λ layout h g. let told = c.in-Err.ensures.answer in
