@@ -34,7 +34,7 @@ Commands, for a sender S, an item K and a barrier B, each counted from 0:
   arm K D      queue K in D ticks            cancel K     take K off the delay table
   modify K D   set K's delay anew            advance T    the present tick becomes T
 A script that begins with 'wq 2' has up to 65536 items, and there drain N drains an open
-queue too, which takes nothing new until nothing is left.
+queue too, which takes nothing new until a drain finds nothing left.
 
 Example:
   printf 'wq 1\\nitems 4\\nsenders 2\\nqueue 0 1\\nqueue 1 2\\nrun 9\\n' | wqrun script /dev/stdin",
