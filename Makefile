@@ -79,6 +79,7 @@ bench: build library
 	cd crates/bench_queue && rt run
 	bench/script.sh $(PROGRAM)
 	bench/commands.py $(PROGRAM)
+	bench/commands.py $(PROGRAM) 5 2 4096 65536
 	bench/items.sh crates/bench_queue/out/bench_queue
 	bench/threads.py crates/bench_queue/out/bench_queue 9
 	bench/values.py crates/bench_queue/out/bench_queue 9
