@@ -4,8 +4,8 @@ random_recordings.py PROGRAM.
 
 Half of them are histories and half are traces, and each second one is spoiled in one place. What an event or a mark may follow is
 read off the lists of all that came before it, as the definitions do; no state is kept. Each refusal comes, and each cause but
-`never drained`, which has rows. A text that fails is made again from its number. One more text goes on behind the line that
-decides it: it is not waited for.
+`never drained`, which has rows. A text that fails is made again from its number. Further texts go on behind the line that decides
+them: it is not waited for.
 """
 import random
 import re
@@ -20,6 +20,9 @@ from texts import LAST, Language, Refused, below, lines_of, need, spoil_byte, wo
 TEXTS = 3000
 LINES = 40
 LONGEST = 4096
+# texts that stay open behind what decides them: an event that may not come, a faulty line, or a line of a byte too many
+GO_ON = [b"trace 1\nitems 2\nqueue 0\nstart 1\n", b"trace 1\nitems 2\nqueue 0\nx\n"]
+GO_ON += [b"history 1\nitems 2\nsenders 1\n0 queue 0\no begin 2\n", b"history 1\n" + b"#" * (LONGEST + 1)]
 WHYS = ["closed", "draining", "contended", "cancelled"]
 
 
@@ -416,19 +419,18 @@ def run(program, file, text, drained):
     return ran.returncode, ran.stdout.decode(errors="replace"), ran.stderr.decode(errors="replace")
 
 
-def fault_at_once(program):
-    """What is wrong where the text goes on behind the line that decides it, or nothing."""
-    text = b"trace 1\nitems 2\nqueue 0\nstart 1\n"
+def fault_at_once(program, text):
+    """What is wrong where this text goes on behind what decides it, or nothing."""
     pipes = {"stdin": subprocess.PIPE, "stdout": subprocess.PIPE, "stderr": subprocess.PIPE}
     ran = subprocess.Popen([program, "check", "/dev/stdin"], **pipes)
     ran.stdin.write(text)
     ran.stdin.flush()
     try:
         got = ran.wait(timeout=20), ran.stdout.read().decode(), ran.stderr.read().decode()
-        return "" if got == judged(text) else f"a text that goes on: {got} and not {judged(text)}"
+        return "" if got == judged(text) else f"a text that goes on behind {text[-20:]}: {got} and not {judged(text)}"
     except subprocess.TimeoutExpired:
         ran.kill()
-        return "a text that goes on behind the line that decides it is waited for"
+        return f"what stands behind {text[-20:]}, which decides, is waited for"
 
 
 def main(program):
@@ -440,8 +442,8 @@ def main(program):
             got = run(program, Path(folder) / "text", text, drained)
             seen.update(outcomes(("history", "trace")[number // 2 % 2], want))
             faults += [f"text {number}: {got} and not {want}"] if got != want else []
-    faults += wanting(seen) + [it for it in [fault_at_once(program)] if it]
-    print("\n".join([*faults, f"random recordings: {TEXTS + 1} texts run, {len(faults)} not as wanted"]))
+    faults += wanting(seen) + [it for it in [fault_at_once(program, text) for text in GO_ON] if it]
+    print("\n".join([*faults, f"random recordings: {TEXTS + len(GO_ON)} texts run, {len(faults)} not as wanted"]))
     return 1 if faults else 0
 
 
