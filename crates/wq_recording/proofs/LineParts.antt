@@ -20,20 +20,22 @@ parts_line text ys none = slice_split_at (λ b. b == 10) text 10 ys (no_lf_tests
 pub parts_bare : (bytes : List ℕ) → HasNoLf bytes → parts bytes ≡ bytes ∷ []
 parts_bare bytes none = slice_split_none (λ b. b == 10) bytes (no_lf_tests bytes none)
 
--- bytes without an LF begin the first part
-pub parts_front : (front ys : List ℕ) → HasNoLf front → (first : List ℕ) × (behind : List (List ℕ)) × (parts (front ++ ys) ≡ (front ++ first) ∷ behind)
+-- bytes without an LF begin the first part, and the parts behind them are its rest and the others
+pub parts_front : (front ys : List ℕ) → HasNoLf front
+    → (first : List ℕ) × (behind : List (List ℕ)) × (parts (front ++ ys) ≡ (front ++ first) ∷ behind) × (parts ys ≡ first ∷ behind)
 parts_front [] ys none = by_parts (parts ys) refl
   where
-    by_parts : (ps : List (List ℕ)) → parts ys ≡ ps → (first : List ℕ) × (behind : List (List ℕ)) × (parts ys ≡ first ∷ behind)
+    by_parts : (ps : List (List ℕ)) → parts ys ≡ ps
+        → (first : List ℕ) × (behind : List (List ℕ)) × (parts ys ≡ first ∷ behind) × (parts ys ≡ first ∷ behind)
     by_parts [] e = absurd (never ys e)
       where
         never : (bytes : List ℕ) → parts bytes ≡ [] → ⊥
         never bytes e = omega (arith, ap length e, length-slice_split (λ b. b == 10) bytes)
-    by_parts (p ∷ ps) e = (p, ps, e)
+    by_parts (p ∷ ps) e = (p, ps, e, e)
 parts_front (x ∷ front) ys none =
     let more = parts_front front ys (All-tail (λ b. b ≢ 10) x front none) in
     let apart : (x == 10) ≡ false = ne_eqb x 10 (All-head (λ b. b ≢ 10) x front none) in
-    (more.0, more.1, slice_split-cons_no (λ b. b == 10) x (front ++ ys) apart ∙ ap (onto_first x) more.2)
+    (more.0, more.1, slice_split-cons_no (λ b. b == 10) x (front ++ ys) apart ∙ ap (onto_first x) more.2, more.3)
 
 module _ (line : List ℕ) (known left : Option (List ℕ)) (got : IsLineRead line known left) where
   -- a line without its LF

@@ -30,12 +30,17 @@ module _ {A : Type 0} (inner : Lines A) where
   pub short_is : (s : Stage) (line : List ℕ) → length line ≤ 4096 → short_line inner s line ≡ inner s line
   short_is s line le = ap (λ b. need kind.Size b >>= λ _. inner s line) (le-leb (length line) 4096 le)
 
-  long_is : (s : Stage) (line : List ℕ) → 4096 < length line → short_line inner s line ≡ Err kind.Size
+  pub long_is : (s : Stage) (line : List ℕ) → 4096 < length line → short_line inner s line ≡ Err kind.Size
   long_is s line lt = ap (λ b. need kind.Size b >>= λ _. inner s line) (lt-leb (length line) 4096 lt)
 
-last_long : (s : Stage) (line : List ℕ) → 4096 < length line → last_fault s line ≡ Some kind.Size
+pub last_long : (s : Stage) (line : List ℕ) → 4096 < length line → last_fault s line ≡ Some kind.Size
 last_long s [] lt = absurd (omega (arith, lt))
 last_long s (b ∷ bs) lt = ap (λ t. Some (if t then kind.Cut else kind.Size)) (lt-leb (length (b ∷ bs)) 4096 lt)
+
+pub too_long : {A E : Type 0} (inner : Lines A) (rules : Rules A E) (text : List ℕ) (s : Stage) (part : List ℕ) (more : List (List ℕ)) (k : Kind)
+    → 4096 < length part → k ≡ kind.Size → HasFaultAt (short_line inner) rules text s part more k
+too_long inner rules text s part [] k long is = last_long s part long ∙ ap (λ (j : Kind). Some j) (sym is)
+too_long inner rules text s part (p ∷ ps) k long is = long_is inner s part long ∙ ap (λ (j : Kind). Err j) (sym is)
 
 -- bytes have a last part
 pub some_part : (bytes : List ℕ) → parts bytes ≢ []
@@ -136,6 +141,20 @@ module _ {A E C : Type 0} (inner : Lines A) (rules : Rules A E) (layout_of : C �
             says = says events m.after;
           }
 
+    -- what no LF ends
+    module _ (bare : ¬ EndsWithLf line) where
+      pub ends : (4096 < length line) ⊎ (r.behind ≡ [])
+      ends = by_end r.got.ends
+        where
+          by_end : EndsWithLf line ⊎ ((4096 < length line) ⊎ IsAtEnd left) → (4096 < length line) ⊎ (r.behind ≡ [])
+          by_end (inl lf) = absurd (bare lf)
+          by_end (inr (inl long)) = inl long
+          by_end (inr (inr none)) = inr (subst IsAtEnd r.left_is none)
+
+      pub last_is : r.behind ≡ [] → parts rest ≡ line ∷ []
+      last_is none =
+          ap parts (r.cut ∙ ap (λ ys. line ++ ys) none ∙ append-nil line) ∙ parts_bare line (bare_line line (Some rest) left r.got bare)
+
     -- all that was told is legal
     module _ (begins : (l : Layout) → rules.IsLegal l []) (legal : (c : C) (h : List E) → after c h → rules.IsLegal (layout_of c) h)
         (made : IsMadeAt layout_of s checker) where
@@ -179,41 +198,24 @@ module _ {A E C : Type 0} (inner : Lines A) (rules : Rules A E) (layout_of : C �
 
       -- what no LF ends
       module _ (bare : ¬ EndsWithLf line) where
-        ends : (4096 < length line) ⊎ (r.behind ≡ [])
-        ends = by_end r.got.ends
-          where
-            by_end : EndsWithLf line ⊎ ((4096 < length line) ⊎ IsAtEnd left) → (4096 < length line) ⊎ (r.behind ≡ [])
-            by_end (inl lf) = absurd (bare lf)
-            by_end (inr (inl long)) = inl long
-            by_end (inr (inr none)) = inr (subst IsAtEnd r.left_is none)
-
-        last_is : r.behind ≡ [] → parts rest ≡ line ∷ []
-        last_is none =
-            ap parts (r.cut ∙ ap (λ ys. line ++ ys) none ∙ append-nil line) ∙ parts_bare line (bare_line line (Some rest) left r.got bare)
-
-        too_long : (part : List ℕ) (more : List (List ℕ)) (k : Kind) → 4096 < length part → k ≡ kind.Size
-            → HasFaultAt (short_line inner) rules text s part more k
-        too_long part [] k long is = last_long s part long ∙ ap (λ (j : Kind). Some j) (sym is)
-        too_long part (p ∷ ps) k long is = long_is inner s part long ∙ ap (λ (j : Kind). Err j) (sym is)
-
         refused_rest : (e : ScriptError) → e.line ≡ n → last_fault s line ≡ Some e.kind → IsRefusedText (short_line inner) rules text e
-        refused_rest e here fault = by_end ends
+        refused_rest e here fault = by_end (ends bare)
           where
             same : {j k : Kind} → Some j ≡ Some k → k ≡ j
             same e = cc
 
             by_end : (4096 < length line) ⊎ (r.behind ≡ []) → IsRefusedText (short_line inner) rules text e
-            by_end (inr none) = refused_part line [] e (last_is none) here fault
+            by_end (inr none) = refused_part line [] e (last_is bare none) here fault
             by_end (inl long) =
                 let f = parts_front line r.behind (bare_line line (Some rest) left r.got bare) in
                 let size : e.kind ≡ kind.Size = same (sym (last_long s line long) ∙ fault) in
                 refused_part (line ++ f.0) f.1 e (ap parts r.cut ∙ f.2) here
-                (too_long (line ++ f.0) f.1 e.kind (omega (arith, long, length-append line f.0)) size)
+                (too_long inner rules text s (line ++ f.0) f.1 e.kind (omega (arith, long, length-append line f.0)) size)
 
         all_read : (layout : Layout) (finding : Finding) → line ≡ [] → layout_at s ≡ Some layout
             → ((h : List E) → HasTold after checker h → rules.IsLegal layout h × SaysOf rules (verdict_of layout h None) finding)
             → Finds (short_line inner) rules text finding
-        all_read layout finding empty here says = by_end ends
+        all_read layout finding empty here says = by_end (ends bare)
           where
             by_end : (4096 < length line) ⊎ (r.behind ≡ []) → Finds (short_line inner) rules text finding
             by_end (inl long) = absurd (omega (arith, long, ap length empty))
@@ -225,7 +227,7 @@ module _ {A E C : Type 0} (inner : Lines A) (rules : Rules A E) (layout_of : C �
                     number = n;
                     reached = s;
                     asked = r.asked;
-                    at = at_part [] [] (last_is none ∙ ap (λ (l : List ℕ). l ∷ []) empty);
+                    at = at_part [] [] (last_is bare none ∙ ap (λ (l : List ℕ). l ∷ []) empty);
                     whole = here;
                     events_are = refl;
                     legal = said.0;

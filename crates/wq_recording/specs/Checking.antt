@@ -1,5 +1,5 @@
 -- What is said of the bytes of a recording of either kind.
-use Rattle.std.specs.Prelude.{◌≡◌, ℕ, Bool, false, List, [], ◌∷◌, drop, Option, Some, None, codes, MatchBool}
+use Rattle.std.specs.Prelude.{◌≡◌, ℕ, ◌-◌, Bool, false, List, [], ◌∷◌, drop, Option, Some, None, codes, MatchBool, if◌then◌else◌}
 use Rattle.std.specs.Str.{bytes_eq}
 use Rattle.wq_check.specs.declared.mark.Mark.{Mark}
 use Rattle.wq_text.specs.declared.fault.ScriptError.{ScriptError}
@@ -12,7 +12,7 @@ use Rattle.wq_recording.specs.HistoryReport.{history_rules}
 use Rattle.wq_recording.specs.declared.stop.Stop.{Stop}
 use Rattle.wq_recording.specs.Trace.{trace_grammar}
 use Rattle.wq_recording.specs.TraceReport.{trace_rules}
-use Rattle.wq_recording.specs.Verdict.{recording_line, IsRefusedText}
+use Rattle.wq_recording.specs.Verdict.{is_short, recording_line, IsRefusedText}
 use Rattle.wq_recording.specs.VerdictText.{Finds}
 
 -- a line of a history, and one of a trace
@@ -43,3 +43,14 @@ IsRefusedFor text e = MatchBool (is_trace text) (IsRefusedText trace_line trace_
 abbrev pub IsReadThrough : Option Stop → List ℕ → List ℕ → Type 0
 IsReadThrough None text left = left ≡ []
 IsReadThrough (Some stop) text left = parts left ≡ drop stop.line (parts text)
+
+-- what is left of a line and the parts behind it once the line was read: those parts, where its LF is among its first 4,097 bytes,
+-- and else all that stands behind these bytes
+abbrev pub unread : List (List ℕ) → List (List ℕ)
+unread (line ∷ next ∷ more) = if is_short line then next ∷ more else drop 4097 line ∷ next ∷ more
+unread (rest ∷ []) = drop 4097 rest ∷ []
+unread [] = []
+
+-- the text was read through the line that is refused and no further, and of a line that is too long 4,097 bytes
+abbrev pub IsReadToFault : ScriptError → List ℕ → List ℕ → Type 0
+IsReadToFault e text left = parts left ≡ unread (drop (e.line - 1) (parts text))

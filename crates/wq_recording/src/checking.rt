@@ -3,7 +3,7 @@ ghost use Rattle.std.specs.Prelude.{◌≡◌, ◌∷◌, ◌++◌, [], ℕ, Lis
 ghost use Rattle.std.specs.Str.{bytes_eq};
 ghost use Rattle.wq_recording.specs.Lines.{EndsWithLf};
 ghost use Rattle.wq_recording.specs.Judging.{IfTextRefused};
-ghost use Rattle.wq_recording.specs.Checking.{IsFoundOf, IsRefusedFor, IsReadThrough};
+ghost use Rattle.wq_recording.specs.Checking.{IsFoundOf, IsRefusedFor, IsReadThrough, IsReadToFault};
 
 use crate::error::CheckError;
 use crate::finding::Finding;
@@ -30,12 +30,14 @@ fn is_trace(line: &[u8]) -> bool
 /// verdicts, and nothing behind the line that decides changes one (`one_verdict`).
 ///
 /// # Errors
-/// `Text` with the first faulty line and the first fault on it, or want of memory; `Read` where the reader failed before a line
-/// decided.
+/// `Text` with the first faulty line and the first fault on it, behind which nothing was read, or want of memory; `Read` where the
+/// reader failed before a line decided.
 pub fn check<B: BufRead>(alloc: Global, reader: &mut B) -> Result<Finding, CheckError>
     ensures found { IfOk result (λ finding. IfSome (B.remaining reader.old) (λ text. IsFoundOf text finding)) }
     ensures refused { IfErr result (λ error. IfSome (B.remaining reader.old) (λ text. IfTextRefused error (IsRefusedFor text))) }
     ensures read { IfOk result (λ finding. IfSome (B.remaining reader.old) (λ text. IsSomeAnd (B.remaining reader.new) (IsReadThrough finding.stop text))) }
+    ensures stops { IfErr result (λ error. IfSome (B.remaining reader.old)
+        (λ text. IfTextRefused error (λ e. IsSomeAnd (B.remaining reader.new) (IsReadToFault e text)))) }
 {
     let mut line = Vec::new(alloc);
     next_line(reader, &mut line)?;

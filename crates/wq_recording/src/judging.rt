@@ -10,7 +10,7 @@ ghost use Rattle.wq_text.specs.Line.{line_gives};
 ghost use Rattle.wq_text.specs.Sound.{SoundAt};
 ghost use Rattle.wq_words.specs.declared.layout.Layout.{Layout as Numbers};
 ghost use Rattle.wq_recording.specs.Lines.{IsLineRead};
-ghost use Rattle.wq_recording.specs.Checking.{IsReadThrough};
+ghost use Rattle.wq_recording.specs.Checking.{IsReadThrough, IsReadToFault};
 ghost use Rattle.wq_recording.specs.Judging.{HasTold, IsMadeAt, ComesTo, IfTextRefused, refusal_of};
 ghost use Rattle.wq_recording.specs.Verdict.{recording_line, last_fault, IsRefusedText};
 ghost use Rattle.wq_recording.specs.VerdictText.{verdict_of, SaysOf, Finds};
@@ -152,6 +152,9 @@ pub(crate) fn judge<L: Recording, B: BufRead>(
     ensures read { (known : Option (List ℕ)) → Consumes known (B.remaining reader.old) line.old.items
         → IsLineRead line.old.items known (B.remaining reader.old)
         → IfOk result (λ finding. IfSome known (λ text. IsSomeAnd (B.remaining reader.new) (IsReadThrough finding.stop text))) }
+    ensures stops { (known : Option (List ℕ)) → Consumes known (B.remaining reader.old) line.old.items
+        → IsLineRead line.old.items known (B.remaining reader.old)
+        → IfErr result (λ error. IfSome known (λ text. IfTextRefused error (λ e. IsSomeAnd (B.remaining reader.new) (IsReadToFault e text)))) }
 {
     let mut stage = Stage::Version;
     let mut checker: Option<L::Checker> = None;

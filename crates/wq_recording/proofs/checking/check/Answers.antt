@@ -56,3 +56,11 @@ returns-then-is_trace-clause-read g c =
 pub returns-clause-read : goal.returns-clause-read
 returns-clause-read g c =
     c.judge-else-is_trace.ensures.read (g.B.Read.remaining c.args.reader.now) c.in_ok-next_line.ensures.bytes c.in_ok-next_line.ensures.line
+
+pub returns-then-is_trace-clause-stops : goal.returns-then-is_trace-clause-stops
+returns-then-is_trace-clause-stops g c =
+    c.judge.ensures.stops (g.B.Read.remaining c.args.reader.now) c.in_ok-next_line.ensures.bytes c.in_ok-next_line.ensures.line
+
+pub returns-clause-stops : goal.returns-clause-stops
+returns-clause-stops g c =
+    c.judge-else-is_trace.ensures.stops (g.B.Read.remaining c.args.reader.now) c.in_ok-next_line.ensures.bytes c.in_ok-next_line.ensures.line

@@ -1,10 +1,12 @@
 use Rattle.wq_recording.proofs.Common.{◌≡◌, ℕ, List, [], Some, Ok, Err, sym, ap, subst, ◌∙◌, refl, line_gives, short_line, last_fault, IsRefusedText, IsMadeAt, ScriptError, Stage}
+use Rattle.std.specs.Prelude.{IsSomeAnd}
 use Rattle.std.proofs.lemmas.Result.{err_from_is_err_and}
 use Rattle.wq_text.specs.Sound.{SoundAt}
+use Rattle.wq_recording.specs.Checking.{IsReadToFault}
 use Rattle.wq_recording.specs.Judging.{refusal_of}
 use Rattle.wq_recording.specs.Lines.{EndsWithLf}
 use Rattle.wq_recording.proofs.Reading.{reads_start, reads_on, reads_stop, reads_fault, reads_rest, reads_all, refused_if, refused_by_line}
-use Rattle.wq_recording.proofs.ReadThrough.{read_to_end, read_to_stop}
+use Rattle.wq_recording.proofs.ReadThrough.{read_to_end, read_to_stop, read_to_fault, read_to_rest}
 use Rattle.wq_recording.proofs.judging.judge.Goals as goal
 
 pub loop-number-init : goal.loop-number-init
@@ -108,3 +110,28 @@ returns-in-Stop-clause-read g c = λ known taken got.
     let done = c.in_ok-finding-in-Stop in
     read_to_stop (line_gives g.L.Language.grammar) r.rules r.layout_of r.is_after known l.number l.stage l.checker l.line.items
     (g.B.Read.remaining l.reader) (l.invariant.reads known taken got) done.finding.stop _ c.in-Line.text.now done.ensures.stop refl whole
+
+pub returns-in_err-finding-in-Rest-clause-stops : goal.returns-in_err-finding-in-Rest-clause-stops
+returns-in_err-finding-in-Rest-clause-stops g c = λ known taken got.
+    let r = g.L.Recording in
+    let l = c.loop-number in
+    let left = g.B.Read.remaining l.reader in
+    let bare = subst (λ (xs : List ℕ). ¬ EndsWithLf xs) c.deref.ensures.value c.in-Rest.ensures.1 in
+    let p = err_from_is_err_and c.from_residual.result c.from_residual.ensures.1 in
+    let Q : ScriptError → Type 0 = λ e. (e.line ≡ l.number) × (last_fault l.stage c.in-Rest.rest.now ≡ Some e.kind) in
+    rw (p.1, p.2) (refused_if known (λ text e. IsSomeAnd left (IsReadToFault e text)) Q c.in_err-finding-in-Rest.field-0.0
+    c.in_err-finding-in-Rest.ensures.refused (λ e fault. read_to_rest (line_gives g.L.Language.grammar) r.rules r.layout_of r.is_after known l.number
+    l.stage l.checker l.line.items left (l.invariant.reads known taken got) e fault.0 bare))
+
+pub returns-in-Err-clause-stops : goal.returns-in-Err-clause-stops
+returns-in-Err-clause-stops g c = λ known taken got.
+    let r = g.L.Recording in
+    let l = c.loop-number in
+    let left = g.B.Read.remaining l.reader in
+    let gives = line_gives g.L.Language.grammar in
+    let whole = sym c.deref.ensures.value ∙ c.in-Line.ensures in
+    let Q : ScriptError → Type 0 = λ e. e.line ≡ l.number in
+    rw (c.refusal.ensures) (refused_if known (λ text e. IsSomeAnd left (IsReadToFault e text)) Q (refusal_of l.number c.in-Err.error)
+    (refused_by_line l.number c.in-Err.error (gives l.stage c.in-Line.text.now) Q c.in-Err.ensures.fault (λ x here is. here))
+    (λ e here. read_to_fault gives r.rules r.layout_of r.is_after known l.number l.stage l.checker l.line.items left
+    (l.invariant.reads known taken got) e here c.in-Line.text.now whole))
