@@ -1,9 +1,11 @@
 -- What stands behind the line that decides changes nothing.
-use Rattle.wq_recording.proofs.Common.{◌≡◌, ◌≢◌, ℕ, ◌<◌, List, [], ◌∷◌, ◌++◌, length, take, drop, Option, Some, None, Result, Ok, Err, refl, sym, ap, subst, ◌∙◌, arith}
-use Rattle.wq_recording.proofs.Common.{append_assoc, length-append, Stage, Lines, ScriptError, parts, Stop, Rules, Verdict, IsLineAt, StopsWith, IsRefusedText, HasVerdict, HasFaultAt}
-use Rattle.wq_recording.specs.Verdict.{deciding_line}
-use Rattle.std.proofs.lemmas.List.{length-drop, take-append-drop}
+use Rattle.wq_recording.proofs.Common.{◌≡◌, ◌≢◌, ℕ, ◌+◌, ◌-◌, ◌<◌, List, [], ◌∷◌, ◌++◌, length, take, drop, get_or, Option, Some, None, Result, Ok, Err, refl, sym, ap, subst, ◌∙◌, arith}
+use Rattle.wq_recording.proofs.Common.{append_assoc, length-append, Kind, Stage, Lines, ScriptError, parts, short_line, Stop, Rules, Verdict, IsLineAt, StopsWith, IsRefusedText, HasVerdict, HasFaultAt}
+use Rattle.wq_text.specs.declared.fault.Kind.TheVariants as kind
+use Rattle.wq_recording.specs.Verdict.{deciding_line, IsTooLongAt}
+use Rattle.std.proofs.lemmas.List.{length-drop, take-append-drop, get_or-append-add}
 use Rattle.std.proofs.Math.Seq.{take-append_seam}
+use Rattle.wq_recording.proofs.Reading.{long_is, last_long, too_long}
 
 same_some : {B : Type 0} {b c : B} → Some b ≡ Some c → b ≡ c
 same_some e = cc
@@ -112,3 +114,84 @@ module _ {A E : Type 0} (gives : Lines A) (rules : Rules A E) (text other : List
       → n < length (parts other) → take n (parts other) ≡ take n (parts text) → HasVerdict gives rules other v
   decided n (Ok v) x is long more same = found_also v v.stop n x is more same
   decided n (Err e) x is long more same = refused_also e n x (same_some is) long more same
+
+same_err : {E B : Type 0} {b c : E} → ◌≡◌ {A = Result B E} (Err b) (Err c) → b ≡ c
+same_err e = cc
+
+clash : {E B : Type 0} {b : B} {e : E} → ◌≡◌ {A = Result B E} (Ok b) (Err e) → ⊥
+clash e = cc
+
+part_at : (ps before rest : List (List ℕ)) (n : ℕ) → ps ≡ before ++ rest → n ≡ 1 + length before → get_or ps (n - 1) [] ≡ get_or rest 0 []
+part_at ps before rest n split number =
+    ap (λ (qs : List (List ℕ)). get_or qs (n - 1) []) split ∙ ap (λ (k : ℕ). get_or (before ++ rest) k []) (omega (arith, number))
+    ∙ get_or-append-add before rest 0 []
+
+-- a line of which no byte behind the first 4,097 is looked at
+module _ {A E : Type 0} (inner : Lines A) (rules : Rules A E) (text other : List ℕ) where
+  long_line : (n : ℕ) (s : Stage) (asked : List A) (line : List ℕ) (behind : List (List ℕ)) → IsLineAt (short_line inner) text n s asked line behind
+      → IsTooLongAt n text → 4096 < length line
+  long_line n s asked line behind at long =
+      omega (arith, long, ap length (part_at (parts text) at.before (line ∷ behind) n at.split at.number))
+
+  never_stops : (v : Verdict E) (stop : Stop) → StopsWith (short_line inner) rules text v.layout v.events stop → IsTooLongAt stop.line text → ⊥
+  never_stops v stop x long =
+      clash (sym x.given ∙ long_is inner x.reached x.line (long_line stop.line x.reached x.asked x.line x.behind x.at long))
+
+  size_is : (s : Stage) (line : List ℕ) (behind : List (List ℕ)) (k : Kind) → 4096 < length line
+      → HasFaultAt (short_line inner) rules text s line behind k → k ≡ kind.Size
+  size_is s line [] k long fault = same_some (sym fault ∙ last_long s line long)
+  size_is s line (p ∷ ps) k long fault = same_err (sym fault ∙ long_is inner s line long)
+
+  long_also : (e : ScriptError) → IsRefusedText (short_line inner) rules text e → IsTooLongAt e.line text → IsTooLongAt e.line other
+      → take (e.line - 1) (parts other) ≡ take (e.line - 1) (parts text) → IsRefusedText (short_line inner) rules other e
+  long_also e x long more same = by_rest (drop (e.line - 1) (parts other)) refl
+    where
+      front : take (e.line - 1) (parts text) ≡ x.at.before
+      front =
+          ap (take (e.line - 1)) x.at.split ∙ ap (λ (k : ℕ). take k (x.at.before ++ x.line ∷ x.behind)) (omega (arith, x.at.number))
+          ∙ take-append_seam x.at.before (x.line ∷ x.behind)
+
+      split : (rest : List (List ℕ)) → drop (e.line - 1) (parts other) ≡ rest → parts other ≡ x.at.before ++ rest
+      split rest is =
+          sym (take-append-drop (e.line - 1) (parts other)) ∙ ap (λ ps. ps ++ drop (e.line - 1) (parts other)) (same ∙ front)
+          ∙ ap (λ ps. x.at.before ++ ps) is
+
+      by_rest : (rest : List (List ℕ)) → drop (e.line - 1) (parts other) ≡ rest → IsRefusedText (short_line inner) rules other e
+      by_rest [] is = absurd (omega (arith, more, ap length (part_at (parts other) x.at.before [] e.line (split [] is) x.at.number)))
+      by_rest (line ∷ behind) is =
+          let parted = split (line ∷ behind) is in
+          let size = size_is x.reached x.line x.behind e.kind (long_line e.line x.reached x.asked x.line x.behind x.at long) x.fault in
+          let far : 4096 < length line =
+          omega (arith, more, ap length (part_at (parts other) x.at.before (line ∷ behind) e.line parted x.at.number)) in
+          record {
+            reached = x.reached;
+            asked = x.asked;
+            line = line;
+            behind = behind;
+            at = record {
+              before = x.at.before;
+              split = parted;
+              leads = x.at.leads;
+              number = x.at.number;
+            };
+            legal = x.legal;
+            fault = too_long inner rules other x.reached line behind e.kind far size;
+          }
+
+  never_found : (v : Verdict E) (o : Option Stop) (n : ℕ)
+      → HasVerdict (short_line inner) rules text (Ok (record { layout = v.layout; events = v.events; stop = o }))
+      → deciding_line {E = E} (Ok (record { layout = v.layout; events = v.events; stop = o })) ≡ Some n → IsTooLongAt n text → ⊥
+  never_found v None n x is long = none is
+    where
+      none : {m : ℕ} → None ≡ Some m → ⊥
+      none e = cc
+  never_found v (Some stop) n x is long = never_stops v stop x (subst (λ (k : ℕ). IsTooLongAt k text) (sym (same_some is)) long)
+
+  pub decided_by_length : (n : ℕ) (v : Result (Verdict E) ScriptError) → HasVerdict (short_line inner) rules text v → deciding_line v ≡ Some n
+      → IsTooLongAt n text → IsTooLongAt n other → take (n - 1) (parts other) ≡ take (n - 1) (parts text)
+      → HasVerdict (short_line inner) rules other v
+  decided_by_length n (Ok v) x is long more same = absurd (never_found v v.stop n x is long)
+  decided_by_length n (Err e) x is long more same =
+      let P : ℕ → Type 0 = λ k. IsTooLongAt k text × IsTooLongAt k other × (take (k - 1) (parts other) ≡ take (k - 1) (parts text)) in
+      let here = subst P (sym (same_some is)) (long, more, same) in
+      long_also e x here.0 here.1 here.2

@@ -1,6 +1,6 @@
 -- What is said of a recording, of its lines and not of reading them: that all of it is legal, or where the first event stands that
 -- is not, and why, or its first faulty line.
-use Rattle.std.specs.Prelude.{◌≡◌, ◌≢◌, ℕ, ◌+◌, ◌<◌, Bool, List, [], ◌∷◌, ◌++◌, length, take, flat_map, nat_le, if◌then◌else◌}
+use Rattle.std.specs.Prelude.{◌≡◌, ◌≢◌, ℕ, ◌+◌, ◌-◌, ◌<◌, Bool, List, [], ◌∷◌, ◌++◌, length, take, get_or, flat_map, nat_le, if◌then◌else◌}
 use Rattle.std.specs.Prelude.{Option, Some, Result, Ok, Err, MatchOption, option_map}
 use Rattle.wq_words.specs.declared.layout.Layout.{Layout}
 use Rattle.wq_check.specs.declared.cause.Cause.{Cause}
@@ -123,3 +123,13 @@ abbrev pub IsDecidedByLine : {A E : Type 0} → Lines A → Rules A E → Type 0
 IsDecidedByLine {A} {E} gives rules =
     (text other : List ℕ) (n : ℕ) (v : Result (Verdict E) ScriptError) → HasVerdict gives rules text v → deciding_line v ≡ Some n
     → n < length (parts text) → n < length (parts other) → take n (parts other) ≡ take n (parts text) → HasVerdict gives rules other v
+
+-- line n is too long, whole or not
+abbrev pub IsTooLongAt : ℕ → List ℕ → Type 0
+IsTooLongAt n text = 4096 < length (get_or (parts text) (n - 1) [])
+
+-- where that line is too long, neither the rest of it nor what stands behind it changes anything
+abbrev pub IsDecidedByLength : {N A E : Type 0} → Grammar N A → Rules A E → Type 0
+IsDecidedByLength {N} {A} {E} g rules =
+    (text other : List ℕ) (n : ℕ) (v : Result (Verdict E) ScriptError) → HasVerdict (recording_line g) rules text v → deciding_line v ≡ Some n
+    → IsTooLongAt n text → IsTooLongAt n other → take (n - 1) (parts other) ≡ take (n - 1) (parts text) → HasVerdict (recording_line g) rules other v

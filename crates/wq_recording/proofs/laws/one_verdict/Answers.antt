@@ -1,9 +1,10 @@
+use Rattle.wq_text.specs.Line.{line_gives}
 use Rattle.wq_recording.specs.History.{history_grammar}
 use Rattle.wq_recording.specs.HistoryReport.{history_rules}
 use Rattle.wq_recording.specs.Trace.{trace_grammar}
 use Rattle.wq_recording.specs.TraceReport.{trace_rules}
 use Rattle.wq_recording.specs.Verdict.{recording_line}
-use Rattle.wq_recording.proofs.Deciding.{decided}
+use Rattle.wq_recording.proofs.Deciding.{decided, decided_by_length}
 use Rattle.wq_recording.proofs.Fitting.{history_fits, trace_fits}
 use Rattle.wq_recording.proofs.Verdicts.{one_verdict}
 use Rattle.wq_recording.proofs.laws.one_verdict.Goals as goal
@@ -19,3 +20,9 @@ returns-clause-history_decided c = λ text other. decided (recording_line histor
 
 pub returns-clause-trace_decided : goal.returns-clause-trace_decided
 returns-clause-trace_decided c = λ text other. decided (recording_line trace_grammar) trace_rules text other
+
+pub returns-clause-history_too_long : goal.returns-clause-history_too_long
+returns-clause-history_too_long c = λ text other. decided_by_length (line_gives history_grammar) history_rules text other
+
+pub returns-clause-trace_too_long : goal.returns-clause-trace_too_long
+returns-clause-trace_too_long c = λ text other. decided_by_length (line_gives trace_grammar) trace_rules text other
