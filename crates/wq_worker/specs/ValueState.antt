@@ -31,6 +31,13 @@ sender_in w = record {
 abbrev pub ran_pairs : {V W : Type 0} → ValueWorkerState V W → List (ℕ × V)
 ran_pairs w = pairs_of (begun w.worker.seen) (handed_in (owner_in w))
 
+-- The work has run what has begun, each item with the value that its own queueing brought, in order: the numbers of what it ran are
+-- all the items that have begun, and each accepted number has its place in what was brought.
+pub record HasRunBegunPairs {V W : Type 0} (log : W → List (ℕ × V)) (w : ValueWorkerState V W) : Type 0 where
+  pub pairs : log w.worker.work ≡ ran_pairs w
+  pub numbers : numbers_in (log w.worker.work) ≡ items_among w.worker.layout (begun w.worker.seen)
+  pub matches : MatchesAccepted (owner_in w)
+
 -- The work has run what the book's history accepted, each item with the value that it brought, in order: the numbers of what it
 -- ran are all the accepted items, and each accepted number has its place in what was brought.
 pub record HasRunPairs {V W : Type 0} (log : W → List (ℕ × V)) (brought : List (Option V)) (work : W) (book : BookState) : Type 0 where

@@ -41,7 +41,8 @@ pub trait Station {
     /// What a book is without values.
     ghost book: { Self.Book → BookState };
 
-    /// The work has run what has begun, in order.
+    /// The work has run what has begun, all items of it, in order; where items bring values, each with the value that its own
+    /// queueing brought, and each accepted number has its place in what was brought.
     ghost has_logged: { Self → Type 0 };
 
     /// The work has run what was accepted in the history of this book, in order.

@@ -25,7 +25,9 @@ pub trait ValueWork<V: Drop> {
         ensures kept { given self.new ≡ given self.old }
         ensures allowed { may self.old item value result.pairs self.new };
 
-    /// Takes back a pair that a run asked for and that was not queued: its item was pending, or the number is no item.
+    /// Takes back a pair that a run asked for and that was not queued: its item was pending, or the number is no item. Of a queue
+    /// that is closed or drains none comes back for that, since the worker alone closes and drains its queue, and chains from its
+    /// own execution then.
     fn returned(&mut self, item: u32, value: V)
         ensures logged { log self.new ≡ log self.old }
         ensures given { given self.new ≡ given self.old ++ (item, value) ∷ [] }

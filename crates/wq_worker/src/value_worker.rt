@@ -18,7 +18,7 @@ ghost use Rattle.wq_worker.specs.State.{items_among, IsSameWorker, Moves, IsMade
 ghost use Rattle.wq_worker.specs.declared.ran.Ran.TheVariants.{Nothing, Owing};
 ghost use Rattle.wq_worker.specs.declared.drained.Drained.TheVariants.{Empty, TooLong};
 ghost use Rattle.wq_worker.specs.Returned.{GivesBack, MayLeave, numbers_in};
-ghost use Rattle.wq_worker.specs.ValueState.{owner_in, sender_in, ran_pairs, HasRunPairs};
+ghost use Rattle.wq_worker.specs.ValueState.{owner_in, sender_in, ran_pairs, HasRunBegunPairs, HasRunPairs};
 ghost use Rattle.wq_worker.specs.Deals.{DealsOut, DealsOutBy, BeginsValue, IsOwedPair, DealsInStep, DealsToEnd};
 ghost use Rattle.wq_worker.specs.Step.{RunsBy, FindsNothing};
 ghost use Rattle.wq_worker.specs.Rows.{RunsSomeBy, DrainsBy, ServesBy, Along};
@@ -329,7 +329,11 @@ impl<V: Drop, W: ValueWork<V>> ValueWorker<V, W> {
     pub fn is_closed(&self) -> bool
         ensures closed { result ≡ closed self.now.worker.seen }
         ensures legal { IsLegal self.now.worker.layout self.now.worker.seen }
+        ensures logged { HasRunBegunPairs W.log self.now }
     {
+        // For the proof: what the log is.
+        self.legal();
+        self.logged();
         self.pair.is_closed()
     }
 
@@ -476,7 +480,7 @@ impl<V: Drop, W: ValueWork<V>> Station for ValueWorker<V, W> {
 
     ghost book = { λ b. b.book };
 
-    ghost has_logged = { λ w. W.log w.worker.work ≡ ran_pairs w };
+    ghost has_logged = { HasRunBegunPairs W.log };
 
     ghost has_run = { λ work b. HasRunPairs W.log b.brought work b.book };
 
@@ -485,6 +489,7 @@ impl<V: Drop, W: ValueWork<V>> Station for ValueWorker<V, W> {
     }
 
     fn logged(&self) {
+        self.legal();
         self.logged();
     }
 
