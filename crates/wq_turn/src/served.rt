@@ -74,6 +74,7 @@ impl<K: Station> ServedOf<K> {
         requires { IsComplete (K.state self).seen }
         ensures work { result.0 ≡ (K.state self).work }
         ensures book { IsBookOf (K.state self) (K.book result.1) }
+        ensures brought { K.has_brought self result.1 }
         ensures finished { IsFinishedBy K.book K.has_run (worker_id (K.state self)) result }
     {
         self.worker.legal();

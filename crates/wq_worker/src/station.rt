@@ -48,6 +48,9 @@ pub trait Station {
     /// The work has run what was accepted in the history of this book, in order.
     ghost has_run: { Self.Work → Self.Book → Type 0 };
 
+    /// The book has what the worker knows to have been brought; nothing is said where items bring no values.
+    ghost has_brought: { Self → Self.Book → Type 0 };
+
     /// As `Worker::legal`.
     fn legal(&self)
         ensures legal { IsLegal (state self.now).layout (state self.now).seen }
@@ -132,5 +135,6 @@ pub trait Station {
         requires { IsComplete (state self).seen }
         ensures work { result.0 ≡ (state self).work }
         ensures book { IsBookOf (state self) (book result.1) }
+        ensures brought { has_brought self result.1 }
         ensures ran { has_run result.0 result.1 };
 }

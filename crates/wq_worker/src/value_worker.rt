@@ -484,6 +484,8 @@ impl<V: Drop, W: ValueWork<V>> Station for ValueWorker<V, W> {
 
     ghost has_run = { λ work b. HasRunPairs W.log b.brought work b.book };
 
+    ghost has_brought = { λ w b. b.brought ≡ w.brought };
+
     fn legal(&self) {
         self.legal();
     }

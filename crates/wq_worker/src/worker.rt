@@ -438,6 +438,8 @@ impl<W: Work> Station for Worker<W> {
 
     ghost has_run = { HasRunAccepted W.log };
 
+    ghost has_brought = { λ w b. Unit {0} };
+
     fn legal(&self) {
         self.legal();
     }

@@ -11,6 +11,7 @@ returns g c =
     record {
       work = c.into_parts.ensures.work ∙ ap (λ x. (k.state x).work) (c.into_worker.ensures ∙ c.self.view_is);
       book = t;
+      brought = subst (λ (x : g.row.K.Denot). k.has_brought x r.1) (c.into_worker.ensures ∙ c.self.view_is) c.into_parts.ensures.brought;
       finished = record {
         queue_is = t.0;
         layout_is = t.1;
