@@ -11,7 +11,8 @@ use Rattle.wq_pool.proofs.Common.{seen_by, id_of}
 use mathlib.Core.List.{IsPrefix}
 use Rattle.wq_words.specs.declared.event.Event.{Event}
 use Rattle.wq_words.proofs.Prefixes.{prefix_self, prefix_on}
-use Rattle.wq_worker.specs.Rows.{Closes, was_closed, closes}
+use Rattle.wq_worker.specs.Rows.{Along, Closes, was_closed, closes}
+use Rattle.wq_worker.proofs.Rows.{along_on}
 use Rattle.wq_worker.specs.State.{Moves}
 use Rattle.wq_turn.specs.Drained.{ClosesAndWorks}
 use Rattle.wq_turn.specs.Steps.{WorksOn}
@@ -41,16 +42,22 @@ goes_by_announce q (Ok _) a b t = record { same = t.same; begins = (t.grows.new,
 goes_by_announce q (Err NoQueue) a b t = subst (λ (z : CallerState). GoesOnFrom a z) (sym t) (goes_still a)
 goes_by_announce q (Err Full) a b t = subst (λ (z : CallerState). GoesOnFrom a z) (sym t.0) (goes_still a)
 
-pub goes_on_at : {K W : Type 0} (state : K → WorkerState W) (seen : List (List Event)) (q : ℕ) (a b : K) → GoesOnAt state seen q a
-    → IsPrefix (seen_by state a) (seen_by state b) → GoesOnAt state seen q b
-goes_on_at state seen q a b on more = (on.0, on.1, prefix_on on.0 (seen_by state a) (seen_by state b) on.2 more)
+pub goes_on_at : {K W : Type 0} (state : K → WorkerState W) (deals : K → K → Type 0) (states : List K) (q : ℕ) (a b : K)
+    → GoesOnAt state deals states q a → IsPrefix (seen_by state a) (seen_by state b) → Along deals a b → GoesOnAt state deals states q b
+goes_on_at state deals states q a b on more row = record {
+  old = on.old;
+  old_is = on.old_is;
+  begins = prefix_on (seen_by state on.old) (seen_by state a) (seen_by state b) on.begins more;
+  along = along_on deals on.old a b on.along row;
+}
 
--- where a worker has seen more it is still the one that was handed in
-pub handed_on : {K W : Type 0} (state : K → WorkerState W) (handed : HandedIn) (q : ℕ) (a b : K) → IsHandedAt state handed q a
-    → id_of state b ≡ id_of state a → IsPrefix (seen_by state a) (seen_by state b) → IsHandedAt state handed q b
-handed_on state handed q a b is same more = record {
+-- where a worker goes on it is still the one that was handed in
+pub handed_on : {K W : Type 0} (state : K → WorkerState W) (deals : K → K → Type 0) (handed : HandedIn K) (q : ℕ) (a b : K)
+    → IsHandedAt state deals handed q a → id_of state b ≡ id_of state a → IsPrefix (seen_by state a) (seen_by state b) → Along deals a b
+    → IsHandedAt state deals handed q b
+handed_on state deals handed q a b is same more row = record {
   worker_is = is.worker_is ∙ ap Some (sym same);
-  goes_on = goes_on_at state handed.seen q a b is.goes_on more;
+  goes_on = goes_on_at state deals handed.states q a b is.goes_on more row;
 }
 
 module _ {W : Type 0} (may : W → ℕ → List ℕ → W → Type 0) (gives : W → W → Type 0) where
@@ -69,11 +76,13 @@ module _ {W : Type 0} (may : W → ℕ → List ℕ → W → Type 0) (gives : W
   drain_begins limit a c t =
       prefix_on a.seen t.closed.seen c.seen (close_begins a t.closed t.closes) (works_begins limit t.is_done t.closed c t.works)
 
-pub turn_same : {K W : Type 0} (state : K → WorkerState W) (p : PoolState) (t u : TurnState K) → IsTurnOf state p t → IsSameTurn state t u → IsTurnOf state p u
-turn_same state p t u is same = record {
+pub turn_same : {K W : Type 0} (state : K → WorkerState W) (deals : K → K → Type 0) (p : PoolState K) (t u : TurnState K) → IsTurnOf state deals p t
+    → IsSameTurn state t u → Along deals t.worker u.worker → IsTurnOf state deals p u
+turn_same state deals p t u is same row = record {
   slots_is = same.slots_is ∙ is.slots_is;
   worker_is = subst (λ (z : ℕ × WorkerId). slice_get p.workers z.0 ≡ Some z.1) (λ i. (sym same.queue_is i, sym same.worker_is i)) is.worker_is;
-  goes_on = subst (λ (q : ℕ). GoesOnAt state p.seen q u.worker) (sym same.queue_is) (goes_on_at state p.seen t.queue t.worker u.worker is.goes_on same.begins);
+  goes_on = subst (λ (q : ℕ). GoesOnAt state deals p.states q u.worker) (sym same.queue_is)
+      (goes_on_at state deals p.states t.queue t.worker u.worker is.goes_on same.begins row);
 }
 
 -- where a caller was refused it is as it was

@@ -10,22 +10,22 @@ zeros words n m is same = subst (λ (k : ℕ). words ≡ replicate k 0) same is
 pub front_of : {A : Type 0} (xs : List (ℕ × A)) (q : ℕ) (x : A) → xs ≡ (q, x) ∷ [] → xs ≡ (q, x) ∷ rest xs
 front_of xs q x is = is ∙ ap (λ z. (q, x) ∷ rest z) (sym is)
 
-module _ {K W : Type 0} (state : K → WorkerState W) where
+module _ {K W : Type 0} (state : K → WorkerState W) (deals : K → K → Type 0) where
   -- where the word was 0 a seat that had nothing in hand has the queue
-  pub has_picked : (handed : HandedIn) (q found : ℕ) (old new : SlotSat K) → found ≡ 0 → old ≡ (empty_hand handed, [])
-      → picks_up state (step 0 q 0 1 none) old found new
-      → (new.0 ≡ hand_with handed q) × (w : K) × (new.1 ≡ (q, Some w) ∷ []) × IsHandedAt state handed q w
+  pub has_picked : (handed : HandedIn K) (q found : ℕ) (old new : SlotSat K) → found ≡ 0 → old ≡ (empty_hand handed, [])
+      → picks_up state deals (step 0 q 0 1 none) old found new
+      → (new.0 ≡ hand_with handed q) × (w : K) × (new.1 ≡ (q, Some w) ∷ []) × IsHandedAt state deals handed q w
   has_picked handed q found old new is_zero was told =
-      let Told : Bool → HandedIn → Type 0 = λ b ids.
-      MatchBool b ((new.0 ≡ hand_with ids q) × (w : K) × (new.1 ≡ (q, Some w) ∷ []) × IsHandedAt state ids q w) (new ≡ old) in
-      subst (λ (ids : HandedIn). Told true ids) (ap (λ (m : SlotSat K). m.0.handed) was)
+      let Told : Bool → HandedIn K → Type 0 = λ b ids.
+      MatchBool b ((new.0 ≡ hand_with ids q) × (w : K) × (new.1 ≡ (q, Some w) ∷ []) × IsHandedAt state deals ids q w) (new ≡ old) in
+      subst (λ (ids : HandedIn K). Told true ids) (ap (λ (m : SlotSat K). m.0.handed) was)
       (subst (λ (b : Bool). Told b old.0.handed) (eq-eqb found 0 is_zero) told)
 
   -- a seat whose queue lies in the slot again lays it down
-  pub lays_filled : (handed : HandedIn) (slots seat q : ℕ) (old new : SlotSat K) (w : K) → old ≡ (hand_with old.0.handed q, (q, None) ∷ [])
-      → IsHandedAt state old.0.handed q w → new ≡ (old.0, (q, Some w) ∷ rest old.1)
-      → Allows (KeptSlots state handed) slots seat new q (λ _. 0) (lays_down {K = K} (step slots q 0 0 none) new)
+  pub lays_filled : (handed : HandedIn K) (slots seat q : ℕ) (old new : SlotSat K) (w : K) → old ≡ (hand_with old.0.handed q, (q, None) ∷ [])
+      → IsHandedAt state deals old.0.handed q w → new ≡ (old.0, (q, Some w) ∷ rest old.1)
+      → Allows (KeptSlots state deals handed) slots seat new q (λ _. 0) (lays_down {K = K} (step slots q 0 0 none) new)
   lays_filled handed slots seat q old new w taken worker_is is =
       let now : new ≡ (hand_with old.0.handed q, (q, Some w) ∷ []) = is ∙ ap (λ (m : SlotSat K). (m.0, (q, Some w) ∷ rest m.1)) taken in
-      subst (λ (m : SlotSat K). Allows (KeptSlots state handed) slots seat m q (λ _. 0) (lays_down {K = K} (step slots q 0 0 none) m)) (sym now)
-      (lays_allowed state handed old.0.handed slots seat q w worker_is)
+      subst (λ (m : SlotSat K). Allows (KeptSlots state deals handed) slots seat m q (λ _. 0) (lays_down {K = K} (step slots q 0 0 none) m)) (sym now)
+      (lays_allowed state deals handed old.0.handed slots seat q w worker_is)

@@ -6,22 +6,23 @@ use Rattle.wq_ready.specs.Known.{Identity}
 pub use Rattle.wq_live.specs.Known.{IsSame}
 pub use Rattle.wq_ready.specs.Known.{IsCallerOf}
 use Rattle.wq_words.specs.declared.event.Event.{Event}
+use Rattle.wq_worker.specs.Rows.{Along}
 use Rattle.wq_worker.specs.State.{WorkerState}
 use Rattle.wq_turn.specs.declared.worker_id.WorkerId.{WorkerId}
 use Rattle.wq_turn.specs.WorkerId.{worker_id}
 
--- which slots they are, and which workers were handed in, by place, and what each had seen then
-pub record SlotsState : Type 0 where
+-- which slots they are, and which workers were handed in, by place, and what each was then
+pub record SlotsState (K : Type 0) : Type 0 where
   pub id : TableId
   pub workers : List WorkerId
-  pub seen : List (List Event)
+  pub states : List K
 
--- which slots and which ready queue it has, and which workers were handed in, by place, and what each had seen then
-pub record PoolState : Type 0 where
+-- which slots and which ready queue it has, and which workers were handed in, by place, and what each was then
+pub record PoolState (K : Type 0) : Type 0 where
   pub slots : TableId
   pub ready : Identity
   pub workers : List WorkerId
-  pub seen : List (List Event)
+  pub states : List K
 
 -- whose slots it is of, the number of its queue, and the worker
 pub record TurnState (K : Type 0) : Type 0 where
@@ -43,13 +44,18 @@ module _ {K W : Type 0} (state : K → WorkerState W) where
   abbrev pub seen_by : K → List Event
   seen_by k = (state k).seen
 
-  -- what it has seen begins with what stands at the place q
-  abbrev pub GoesOnAt : List (List Event) → ℕ → K → Type 0
-  GoesOnAt seen q w = (old : List Event) × (slice_get seen q ≡ Some old) × IsPrefix old (seen_by w)
-
   -- it is the same queue of the same slots, with the same worker, which has seen at least what it had seen
   pub record IsSameTurn (t u : TurnState K) : Type 0 where
     pub slots_is : u.slots ≡ t.slots
     pub queue_is : u.queue ≡ t.queue
     pub worker_is : turn_id u ≡ turn_id t
     pub begins : IsPrefix (seen_by t.worker) (seen_by u.worker)
+
+-- `deals` says what one step does with the pairs that the work asks for
+module _ {K W : Type 0} (state : K → WorkerState W) (deals : K → K → Type 0) where
+  -- It goes on from what stands at the place q: it has seen at least what that had seen, and became what it is step by step.
+  pub record GoesOnAt (states : List K) (q : ℕ) (w : K) : Type 0 where
+    pub old : K
+    pub old_is : slice_get states q ≡ Some old
+    pub begins : IsPrefix (seen_by state old) (seen_by state w)
+    pub along : Along deals old w

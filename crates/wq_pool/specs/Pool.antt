@@ -12,12 +12,12 @@ use Rattle.wq_pool.specs.Slots.{IsWorkerAt}
 abbrev pub IsNoPool : ℕ → Type 0
 IsNoPool count = (count ≡ 0) ⊎ (256 < count)
 
--- The very queue of its number, in hand: its worker goes on from what had been seen when it was handed in. `state` says what a
--- worker is without values.
-pub record IsTurnOf {K W : Type 0} (state : K → WorkerState W) (pool : PoolState) (turn : TurnState K) : Type 0 where
+-- The very queue of its number, in hand: its worker goes on from what it was when it was handed in. `state` says what a worker is
+-- without values, `deals` what one step does with the pairs that the work asks for.
+pub record IsTurnOf {K W : Type 0} (state : K → WorkerState W) (deals : K → K → Type 0) (pool : PoolState K) (turn : TurnState K) : Type 0 where
   pub slots_is : turn.slots ≡ pool.slots
   pub worker_is : IsWorkerAt state pool.workers turn.queue turn.worker
-  pub goes_on : GoesOnAt state pool.seen turn.queue turn.worker
+  pub goes_on : GoesOnAt state deals pool.states turn.queue turn.worker
 
 -- the number was queued, and its queue rested
 abbrev pub says_wakes : Answer → Bool

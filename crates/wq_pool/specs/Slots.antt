@@ -7,17 +7,17 @@ use Rattle.wq_worker.specs.State.{WorkerState}
 use Rattle.wq_pool.specs.declared.slots.Hand.{Hand}
 use Rattle.wq_pool.specs.declared.slots.HandedIn.{HandedIn}
 use Rattle.wq_turn.specs.declared.worker_id.WorkerId.{WorkerId}
-use Rattle.wq_pool.specs.Known.{id_of, seen_by, GoesOnAt}
+use Rattle.wq_pool.specs.Known.{id_of, GoesOnAt}
 
-abbrev pub empty_hand : HandedIn → Hand
+abbrev pub empty_hand : {K : Type 0} → HandedIn K → Hand K
 empty_hand handed = record { queue = None; handed = handed }
 
-abbrev pub hand_with : HandedIn → ℕ → Hand
+abbrev pub hand_with : {K : Type 0} → HandedIn K → ℕ → Hand K
 hand_with handed q = record { queue = Some q; handed = handed }
 
 -- what a seat is to the slots
 abbrev pub SlotSat : Type 0 → Type 0
-SlotSat K = Me (Option K) Hand
+SlotSat K = Me (Option K) (Hand K)
 
 -- a new seat has nothing in hand
 abbrev pub comes : {K : Type 0} → Step (Option K) → SlotSat K → ℕ → SlotSat K → Type 0
@@ -32,24 +32,26 @@ module _ {K W : Type 0} (state : K → WorkerState W) where
   abbrev pub IsWorkerAt : List WorkerId → ℕ → K → Type 0
   IsWorkerAt workers q w = slice_get workers q ≡ Some (id_of state w)
 
-  -- it is the worker that was handed in at the place q, and has seen at least what it had seen then
-  pub record IsHandedAt (handed : HandedIn) (q : ℕ) (w : K) : Type 0 where
-    pub worker_is : IsWorkerAt handed.workers q w
-    pub goes_on : GoesOnAt state handed.seen q w
+  abbrev pub handed_of : List K → HandedIn K
+  handed_of ws = record { workers = map (id_of state) ws; states = ws }
 
-  abbrev pub handed_of : List K → HandedIn
-  handed_of ws = record { workers = map (id_of state) ws; seen = map (seen_by state) ws }
+-- `deals` says what one step does with the pairs that the work asks for
+module _ {K W : Type 0} (state : K → WorkerState W) (deals : K → K → Type 0) where
+  -- it is the worker that was handed in at the place q, and goes on from what it was then
+  pub record IsHandedAt (handed : HandedIn K) (q : ℕ) (w : K) : Type 0 where
+    pub worker_is : IsWorkerAt state handed.workers q w
+    pub goes_on : GoesOnAt state deals handed.states q w
 
   -- A word is 0 while its queue is in its slot. Then it is the worker that was handed in at this place; else one seat, the
   -- keeper, has it in hand.
-  pub record KeptSlots (handed : HandedIn) (s : State (Option K) Hand) : Type 0 where
+  pub record KeptSlots (handed : HandedIn K) (s : State (Option K) (Hand K)) : Type 0 where
     pub words_count : length s.words ≡ length handed.workers
     pub slots_count : length s.homes ≡ length handed.workers
     pub keeper : ℕ → ℕ
     pub in_slot : (q : ℕ) → q < length handed.workers → slice_index s.words q ≡ 0
         → (w : K) × (get_elem? s.homes q ≡ some (some (Some w))) × IsHandedAt handed q w
-    pub told : (seat : ℕ) (hand : Hand) → get_elem? s.views seat ≡ some hand → hand.handed ≡ handed
-    pub in_hand : (seat : ℕ) (hand : Hand) → get_elem? s.views seat ≡ some hand → (q : ℕ) → hand.queue ≡ Some q
+    pub told : (seat : ℕ) (hand : Hand K) → get_elem? s.views seat ≡ some hand → hand.handed ≡ handed
+    pub in_hand : (seat : ℕ) (hand : Hand K) → get_elem? s.views seat ≡ some hand → (q : ℕ) → hand.queue ≡ Some q
         → (q < length handed.workers) × (slice_index s.words q ≡ 1) × (keeper q ≡ seat)
 
   -- it has the queue of this word in hand, where the word was 0

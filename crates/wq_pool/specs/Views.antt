@@ -5,7 +5,7 @@ use Rattle.wq_worker.specs.State.{WorkerState}
 use Rattle.wq_pool.specs.declared.slots.Slots.TheInside as slots
 use Rattle.wq_pool.specs.declared.turn.TurnOf.TheInside as turn
 use Rattle.wq_pool.specs.declared.turn.WorkedOf.TheInside as worked
-use Rattle.wq_pool.specs.Known.{SlotsState, TurnState, id_of, seen_by}
+use Rattle.wq_pool.specs.Known.{SlotsState, TurnState, id_of}
 use Rattle.wq_pool.specs.Slots.{SlotSat, hand_with, IsHandedAt}
 
 abbrev pub turn_view : {K W B : Type 0} → turn.Inside K W B → TurnState K
@@ -16,11 +16,11 @@ worked_view t = record { slots = t.seat.table_id; queue = t.queue; worker = t.se
 
 -- `state` says what a worker is without values
 module _ {K W : Type 0} (state : K → WorkerState W) where
-  abbrev pub slots_view : {B : Type 0} → slots.Inside K W B → SlotsState
+  abbrev pub slots_view : {B : Type 0} → slots.Inside K W B → SlotsState K
   slots_view s = record {
     id = s.table.shared.table_id;
     workers = map (id_of state) s.table.shared.key.value.items;
-    seen = map (seen_by state) s.table.shared.key.value.items;
+    states = s.table.shared.key.value.items;
   }
 
   -- there is a word and a slot for each
@@ -29,11 +29,13 @@ module _ {K W : Type 0} (state : K → WorkerState W) where
     pub slots_count : s.table.shared.table_id.slots ≡ s.count
     pub count_is : length (map (id_of state) s.table.shared.key.value.items) ≡ s.count
 
+-- `deals` says what one step does with the pairs that the work asks for
+module _ {K W : Type 0} (state : K → WorkerState W) (deals : K → K → Type 0) where
   -- the seat has taken the slot of this queue alone, and the worker is the one that was handed in there
   pub record IsInHand (id : TableId) (seat : SlotSat K) (q : ℕ) (w : K) : Type 0 where
     pub taken : seat ≡ (hand_with seat.0.handed q, (q, None) ∷ [])
     pub within : q < id.words
-    pub worker_is : IsHandedAt state seat.0.handed q w
+    pub worker_is : IsHandedAt state deals seat.0.handed q w
 
   abbrev pub IsTurn : {B : Type 0} → turn.Inside K W B → Type 0
   IsTurn t = IsInHand t.seat.table_id t.seat.me t.queue t.runner

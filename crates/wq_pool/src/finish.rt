@@ -71,10 +71,10 @@ fn first_left(left: Option<(u32, u32)>, queue: u32, more: u32) -> Option<(u32, u
 // Picks up each queue in turn, closes it, and executes up to so many of its numbers.
 fn gather<K: Station + Drop>(slots: &Slots<K>, mut all: Vec<WorkedOf<K>>, limit: u32) -> Gathered<K>
     requires room { (all.items ≡ []) × (length slots.now.workers ≤ vec_capacity all) }
-    ensures first { AreFirst K.state slots.now result.all.items }
+    ensures first { AreFirst K.state K.deals slots.now result.all.items }
     ensures all { IfNone result.out (length result.all.items ≡ length slots.now.workers) }
-    ensures drained { WereDrained K.state K.may K.gives K.deals limit slots.now.workers slots.now.seen result.all.items }
-    ensures left { LeavesOf K.state K.may K.gives K.deals limit slots.now.workers slots.now.seen result.all.items result.left }
+    ensures drained { WereDrained K.state K.may K.gives K.deals limit slots.now.workers slots.now.states result.all.items }
+    ensures left { LeavesOf K.state K.may K.gives K.deals limit slots.now.workers slots.now.states result.all.items result.left }
     ensures out { IfSome result.out (λ queue. (queue ≡ length result.all.items) × (queue < length slots.now.workers)) }
 {
     let mut left = None;
@@ -104,7 +104,7 @@ fn take_apart<K: Station + Drop>(
     requires room { (finished.items ≡ []) × (vec_len all ≤ vec_capacity finished) }
     requires complete { AreComplete K.state all.items }
     ensures finished { AreFinishedBy K.book K.has_run (map (turn_id K.state) all.items) result.items }
-    ensures parts { AreTakenApart K.state K.book all.items result.items }
+    ensures parts { AreTakenApart K.state K.book K.has_brought all.items result.items }
 {
     for worked in all {
         finished.push_reserved(worked.into_parts());
@@ -123,7 +123,9 @@ impl<K: Station + Drop> PoolOf<K> {
 
     /// Closes every queue and executes what is left of each, up to so many numbers of each, and then takes all apart: the works and
     /// the books, by place. Each queue is tried once: one that is in a turn is out. The clauses speak of what was done to a queue
-    /// from some state of its worker on, which had seen at least what was handed in: who calls has not seen what lies in the pool.
+    /// from some state of its worker on, which goes on from what was handed in: who calls has not seen what lies in the pool. Where
+    /// items bring values `begins` and the law `steps_go_on` say that what was brought before the pool was made begins what the
+    /// book has.
     ///
     /// # Errors
     /// `Memory` before any queue is touched; `Out` for the first queue that is not in its slot; `Unfinished` for the first queue
@@ -137,8 +139,8 @@ impl<K: Station + Drop> PoolOf<K> {
         ensures finished { IfOk result (λ finished. AreFinishedBy K.book K.has_run self.workers finished.items) }
         ensures count { IfOk result (λ finished. length finished.items ≡ length self.workers) }
         ensures each { IfOk result (λ finished. All (RanToEndBy K.book K.has_run) finished.items) }
-        ensures drained { IfOk result (λ finished. ComeFromDrains K.state K.may K.gives K.deals limit K.book self.workers self.seen finished.items) }
-        ensures begins { IfOk result (λ finished. BeginAsHandedIn K.book self.seen finished.items) }
+        ensures drained { IfOk result (λ finished. ComeFromDrains K.state K.may K.gives K.deals limit K.book K.has_brought self.workers self.states finished.items) }
+        ensures begins { IfOk result (λ finished. BeginAsHandedIn K.state K.deals K.book K.has_brought self.states finished.items) }
         ensures fault { IfErr result (IsPoolFault K.state K.may K.gives K.deals limit self) }
     {
         let count = self.slots.count() as usize;

@@ -5,7 +5,7 @@ ghost use Rattle.wq_ready.specs.declared.ready_queue.AnnounceError.TheVariants a
 ghost use Rattle.wq_ready.specs.Answers.{Announces, Picks};
 ghost use Rattle.wq_ready.specs.Known.{IsCallerOf, new_callers};
 ghost use Rattle.wq_pool.specs.declared.pool.PoolError.TheVariants as pool_error;
-ghost use Rattle.wq_pool.specs.Known.{queue_in_turn, id_of, seen_by};
+ghost use Rattle.wq_pool.specs.Known.{queue_in_turn, id_of};
 ghost use Rattle.wq_pool.specs.Pool.{IsTurnOf, IsNoPool, GoesOnFrom, says_wakes};
 
 use crate::slots::Slots;
@@ -50,7 +50,7 @@ pub struct PoolOf<K: Station> {
 impl<K: Station> Model for PoolOf<K> {
     ghost use Rattle.wq_pool.specs.Known.{PoolState};
 
-    ghost Value = { PoolState };
+    ghost Value = { PoolState K };
 
     ghost use Rattle.wq_pool.specs.PoolView.{pool_view, HasReadyQueue};
 
@@ -73,7 +73,7 @@ impl<K: Station + Drop> PoolOf<K> {
     ) -> Result<(PoolOf<K>, Vec<Caller>), PoolError>
         ensures no_queue { (result ≡ Err pool_error.NoQueue) ↔ IsNoPool (length queues.items) }
         ensures workers { IfOk result (λ r. r.0.workers ≡ map (id_of K.state) queues.items) }
-        ensures seen { IfOk result (λ r. r.0.seen ≡ map (seen_by K.state) queues.items) }
+        ensures states { IfOk result (λ r. r.0.states ≡ queues.items) }
         ensures size { IfOk result (λ r. r.0.ready.size ≡ record { queues = length queues.items; callers = callers }) }
         ensures callers { IfOk result (λ r. r.1.items ≡ new_callers r.0.ready callers) }
         ensures count { IfOk result (λ r. length r.1.items ≡ callers) }
@@ -165,7 +165,7 @@ impl<K: Station + Drop> PoolOf<K> {
         requires { IsCallerOf self.now.ready caller.old }
         ensures seen { Picks (option_map queue_in_turn result) caller.old caller.new }
         ensures caller { IsCallerOf self.now.ready caller.new }
-        ensures turn { IfSome result (IsTurnOf K.state self.now) }
+        ensures turn { IfSome result (IsTurnOf K.state K.deals self.now) }
         ensures idle { IfSome result (λ turn. ¬ IsRunning (K.state turn.worker).seen) }
     {
         match self.pick_number(rt, caller) {
@@ -187,7 +187,7 @@ impl<K: Station + Drop> PoolOf<K> {
     // Tries until the queue is in its slot.
     pub(crate) fn fetch<R: Wait>(&self, rt: &R, queue: u32) -> TurnOf<K>
         requires { queue < length self.now.workers }
-        ensures turn { IsTurnOf K.state self.now result }
+        ensures turn { IsTurnOf K.state K.deals self.now result }
         ensures queue { result.queue ≡ queue }
         ensures idle { ¬ IsRunning (K.state result.worker).seen }
     {

@@ -59,7 +59,7 @@ impl<K: Station + Drop + Send> PoolOf<K> {
         gate: &G,
     ) -> Option<u32>
         requires caller { IsCallerOf self.now.ready caller.old }
-        requires turn { IsTurnOf K.state self.now turn }
+        requires turn { IsTurnOf K.state K.deals self.now turn }
         ensures next { IfSome result (λ q. q < length self.now.workers) }
         ensures goes_on { GoesOnFrom caller.old caller.new }
     {
@@ -98,7 +98,7 @@ impl<K: Station + Drop + Send> PoolOf<K> {
         requires next { IfSome next (λ q. q < length self.now.workers) }
         ensures caller { IsCallerOf self.now.ready caller.new }
         ensures goes_on { GoesOnFrom caller.old caller.new }
-        ensures turn { IfSome result (IsTurnOf K.state self.now) }
+        ensures turn { IfSome result (IsTurnOf K.state K.deals self.now) }
     {
         match next {
             Some(queue) => Some(self.fetch(rt, queue)),

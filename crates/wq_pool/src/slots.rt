@@ -1,7 +1,7 @@
 //! The queues of a pool in slots: each is in its slot, or in the hand of the one that picked it up.
 ghost use Rattle.std.specs.Prelude.{◌≡◌, ◌<◌, ◌^◌, Some, map, length, slice_get, IfOk, IfSome};
 ghost use Rattle.wq_words.specs.History.{IsRunning};
-ghost use Rattle.wq_pool.specs.Known.{id_of, seen_by, GoesOnAt};
+ghost use Rattle.wq_pool.specs.Known.{id_of, GoesOnAt};
 
 use crate::turn::{TurnOf, WorkedOf};
 use atomic_table::{Play, Seat, Table, TableRule};
@@ -10,44 +10,43 @@ use std::marker::Model;
 use std::snapshot::Snapshot;
 use trail::GhostList;
 use wq_turn::{Runner, ServedOf, WorkerId};
-use wq_words::Event;
 use wq_worker::Station;
 
-/// Which workers were handed in, by place, and what each had seen then. No value of it is made.
-pub struct HandedIn {
+/// Which workers were handed in, by place, and what each was then. No value of it is made.
+pub struct HandedIn<K> {
     pub workers: GhostList<WorkerId>,
-    pub seen: GhostList<GhostList<Event>>,
+    pub states: GhostList<K>,
 }
 
 /// What a seat knows: the queue that it has in hand, and what was handed in. No value of it is made.
-pub struct Hand {
+pub struct Hand<K> {
     pub queue: Option<u64>,
-    pub handed: HandedIn,
+    pub handed: HandedIn<K>,
 }
 
 /// What the table is told once: the queues that were handed in. It takes no memory.
 pub type Handed<K> = Snapshot<Vec<ServedOf<K>>>;
 
-/// What is in a slot is the worker that was handed in at that place, which has seen at least what it had seen then.
+/// What is in a slot is the worker that was handed in at that place, which goes on from what it was then.
 pub struct Law;
 
-impl<K: Station> TableRule<Option<ServedOf<K>>, Hand, Handed<K>> for Law {
+impl<K: Station> TableRule<Option<ServedOf<K>>, Hand<K>, Handed<K>> for Law {
     ghost use Rattle.wq_pool.specs.Slots.{KeptSlots, empty_hand, handed_of};
 
-    ghost holds = { λ handed state. KeptSlots K.state (handed_of K.state handed.value.items) state };
+    ghost holds = { λ handed state. KeptSlots K.state K.deals (handed_of K.state handed.value.items) state };
 
     ghost first = { λ handed. empty_hand (handed_of K.state handed.value.items) };
 }
 
 /// A seat at the slots.
-pub type SlotSeat<K> = Seat<Option<ServedOf<K>>, Hand>;
+pub type SlotSeat<K> = Seat<Option<ServedOf<K>>, Hand<K>>;
 
-type SlotTable<K> = Table<Option<ServedOf<K>>, Hand, Handed<K>, Law, Global>;
+type SlotTable<K> = Table<Option<ServedOf<K>>, Hand<K>, Handed<K>, Law, Global>;
 
 /// A new seat has nothing in hand.
 pub struct Comes;
 
-impl<K: Station> Play<Option<ServedOf<K>>, Hand> for Comes {
+impl<K: Station> Play<Option<ServedOf<K>>, Hand<K>> for Comes {
     ghost use Rattle.wq_pool.specs.Slots.{comes};
 
     ghost then = { comes };
@@ -56,16 +55,16 @@ impl<K: Station> Play<Option<ServedOf<K>>, Hand> for Comes {
 /// A seat picks a queue up, where the queue is in its slot.
 pub struct PicksUp;
 
-impl<K: Station> Play<Option<ServedOf<K>>, Hand> for PicksUp {
+impl<K: Station> Play<Option<ServedOf<K>>, Hand<K>> for PicksUp {
     ghost use Rattle.wq_pool.specs.Slots.{picks_up};
 
-    ghost then = { picks_up K.state };
+    ghost then = { picks_up K.state K.deals };
 }
 
 /// A seat lays down what it has in hand.
 pub struct LaysDown;
 
-impl<K: Station> Play<Option<ServedOf<K>>, Hand> for LaysDown {
+impl<K: Station> Play<Option<ServedOf<K>>, Hand<K>> for LaysDown {
     ghost use Rattle.wq_pool.specs.Slots.{lays_down};
 
     ghost then = { lays_down };
@@ -81,7 +80,7 @@ pub(crate) struct Slots<K: Station> {
 impl<K: Station> Model for Slots<K> {
     ghost use Rattle.wq_pool.specs.Known.{SlotsState};
 
-    ghost Value = { SlotsState };
+    ghost Value = { SlotsState K };
 
     ghost use Rattle.wq_pool.specs.Views.{slots_view, AreSlots};
 
@@ -108,7 +107,7 @@ impl<K: Station + Drop> Slots<K> {
     pub(crate) fn new(alloc: Global, queues: Vec<ServedOf<K>>) -> Result<Slots<K>, AllocError>
         requires { length queues.items < 2 ^ 32 }
         ensures workers { IfOk result (λ slots. slots.workers ≡ map (id_of K.state) queues.items) }
-        ensures seen { IfOk result (λ slots. slots.seen ≡ map (seen_by K.state) queues.items) }
+        ensures states { IfOk result (λ slots. slots.states ≡ queues.items) }
     {
         let handed = Snapshot::of(&queues);
         let count = queues.len();
@@ -136,7 +135,7 @@ impl<K: Station + Drop> Slots<K> {
         ensures queue { IfSome result (λ turn. turn.queue ≡ queue) }
         ensures slots { IfSome result (λ turn. turn.slots ≡ self.now.id) }
         ensures worker { IfSome result (λ turn. slice_get self.now.workers queue ≡ Some (id_of K.state turn.worker)) }
-        ensures goes_on { IfSome result (λ turn. GoesOnAt K.state self.now.seen queue turn.worker) }
+        ensures goes_on { IfSome result (λ turn. GoesOnAt K.state K.deals self.now.states queue turn.worker) }
         ensures idle { IfSome result (λ turn. ¬ IsRunning (K.state turn.worker).seen) }
     {
         let place = queue as usize;

@@ -33,7 +33,7 @@ impl<K: Station> Model for TurnOf<K> {
 
     ghost view = { turn_view };
 
-    ghost invariant = { IsTurn K.state };
+    ghost invariant = { IsTurn K.state K.deals };
 }
 
 /// A queue that was worked at, to be put back. One that is dropped leaves its queue out of the pool for good.
@@ -53,7 +53,7 @@ impl<K: Station> Model for WorkedOf<K> {
 
     ghost view = { worked_view };
 
-    ghost invariant = { IsWorked K.state };
+    ghost invariant = { IsWorked K.state K.deals };
 }
 
 impl<K: Station> TurnOf<K> {
@@ -170,7 +170,7 @@ impl<K: Station + Drop> WorkedOf<K> {
     /// The work and the book of a queue that has run to its end.
     pub(crate) fn into_parts(self) -> (K::Work, K::Book)
         requires { IsComplete (K.state self.worker).seen }
-        ensures parts { ArePartsOf K.state K.book self.worker result }
+        ensures parts { ArePartsOf K.state K.book K.has_brought self.worker result }
         ensures finished { IsFinishedBy K.book K.has_run (turn_id K.state self) result }
     {
         self.served.into_parts()

@@ -27,13 +27,13 @@ pub record AreCallersOf (ready : Identity) (senders : ℕ) (callers : Callers) :
   pub count : length callers.senders.items ≡ senders
 
 -- a group with a sender for some of the pool's queues, each with room for its own items
-pub record IsGroupFor (own_items : ℕ) (pool : PoolState) (group : Group) : Type 0 where
+pub record IsGroupFor {K : Type 0} (own_items : ℕ) (pool : PoolState K) (group : Group) : Type 0 where
   pub places : length group.senders.items ≤ length pool.workers
   pub few : length group.senders.items ≤ 8
   pub rooms : All (λ s. s.number * own_items + own_items ≤ s.layout.items) group.senders.items
 
 -- groups and the program's senders, with the callers that their threads take
-pub record MayRun (own_items : ℕ) (pool : PoolState) (callers : Callers) (groups : List Group) (programs : List Known) : Type 0 where
+pub record MayRun {K : Type 0} (own_items : ℕ) (pool : PoolState K) (callers : Callers) (groups : List Group) (programs : List Known) : Type 0 where
   pub called : AreCallersOf pool.ready (length groups) callers
   pub ready : All (IsGroupFor own_items pool) groups
   pub places : length programs ≤ length pool.workers

@@ -21,25 +21,25 @@ loop-queue-preserved g c =
     subst (λ (q : ℕ). FirstLeft l.left q c.drain-more.result c.first_left-left.result) (sym at) c.first_left-left.ensures in
     let leaves : IsDrained c.drain-more.result (state t.worker) =
     subst (λ (u : TurnState _). IsDrained c.drain-more.result (state u.worker)) (sym into) drain.left in
-    let on : GoesOnAt state slots.seen (length l.all.items) t.worker =
-    subst (λ (z : ℕ × TurnState _). GoesOnAt state slots.seen z.0 z.1.worker) (λ i. (sym at i, sym into i))
-    (goes_on_at state slots.seen l.queue start c.drain-more.new.self.worker up.goes_on drain.same.begins) in
-    let drained : WasDrainedAt state k.may k.gives k.deals limit slots.workers slots.seen (length l.all.items) t.worker = record {
+    let on : GoesOnAt state k.deals slots.states (length l.all.items) t.worker =
+    subst (λ (z : ℕ × TurnState _). GoesOnAt state k.deals slots.states z.0 z.1.worker) (λ i. (sym at i, sym into i))
+    (goes_on_at state k.deals slots.states l.queue start c.drain-more.new.self.worker up.goes_on drain.same.begins drain.deals) in
+    let drained : WasDrainedAt state k.may k.gives k.deals limit slots.workers slots.states (length l.all.items) t.worker = record {
       start = start;
       start_is = subst (λ (q : ℕ). IsWorkerAt state slots.workers q start) (sym at) up.worker;
-      goes_on = subst (λ (q : ℕ). GoesOnAt state slots.seen q start) (sym at) up.goes_on;
+      goes_on = subst (λ (q : ℕ). GoesOnAt state k.deals slots.states q start) (sym at) up.goes_on;
       worker_is = worker_is;
       idle = up.idle;
       works = subst (λ (u : TurnState _). ClosesAndWorks k.may k.gives limit (state start) (state u.worker)) (sym into) drain.works;
       dealt = subst (λ (u : TurnState _). Along k.deals start u.worker) (sym into) drain.deals;
     } in (
-      first_more state slots l.all.items c.push_reserved.new.self.items t i.0 (omega (arith, at, c.count-queue-end.ensures, c.loop-queue-test.true))
+      first_more state k.deals slots l.all.items c.push_reserved.new.self.items t i.0 (omega (arith, at, c.count-queue-end.ensures, c.loop-queue-test.true))
           (ap (λ (u : TurnState _). u.slots) into ∙ (drain.same.slots_is ∙ up.slots)) worker_is on c.push_reserved.ensures.items,
       search rules,
       search rules,
-      drained_more state k.may k.gives k.deals limit slots.workers slots.seen l.all.items c.push_reserved.new.self.items t i.3 drained
+      drained_more state k.may k.gives k.deals limit slots.workers slots.states l.all.items c.push_reserved.new.self.items t i.3 drained
           c.push_reserved.ensures.items,
-      left_more state k.may k.gives k.deals limit slots.workers slots.seen l.left c.first_left-left.result l.all.items c.push_reserved.new.self.items t
+      left_more state k.may k.gives k.deals limit slots.workers slots.states l.left c.first_left-left.result l.all.items c.push_reserved.new.self.items t
           c.drain-more.result i.3 i.4 told drained leaves
           (λ some. subst (λ (u : TurnState _). EndsJust limit (state start).seen (state u.worker).seen) (sym into) (drain.executed some))
           c.push_reserved.ensures.items,

@@ -28,7 +28,7 @@ loop-worked-preserved g c =
           i.2 c.into_parts.ensures.finished c.push_reserved.ensures.items,
       omega (arith, c.push_reserved.ensures.len, i.3, length-append l.yielded (c.in-Some.worked ∷ [])),
       omega (arith, c.push_reserved.ensures.capacity, i.4),
-      parts_next k.state k.book l.yielded c.in-Some.worked l.finished.items c.push_reserved.new.self.items c.into_parts.result i.5 (omega (arith, i.3))
+      parts_next k.state k.book k.has_brought l.yielded c.in-Some.worked l.finished.items c.push_reserved.new.self.items c.into_parts.result i.5 (omega (arith, i.3))
           c.into_parts.ensures.parts c.push_reserved.ensures.items,
     )
 
@@ -45,4 +45,4 @@ returns-clause-parts g c =
     let k = g.K.Station in let i = c.into_iter-worked-iterator.ensures.into_iter_gives in let l = c.loop-worked in
     let all = YieldsList-end (YieldsList-from_vec {s = c.into_iter-worked-iterator.result} c.args.all.items i.0 (i.1 ∙ c.args.all.ok.0))
     l.yielded l.worked-iterator l.yielded_by c.next.result c.next.new.self c.in-None.is c.next.ensures.steps in
-    subst (λ (ts : List (TurnState _)). AreTakenApart k.state k.book ts l.finished.items) (sym (map-id l.yielded) ∙ all.0) l.invariant.5
+    subst (λ (ts : List (TurnState _)). AreTakenApart k.state k.book k.has_brought ts l.finished.items) (sym (map-id l.yielded) ∙ all.0) l.invariant.5

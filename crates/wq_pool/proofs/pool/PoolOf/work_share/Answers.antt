@@ -13,8 +13,8 @@ loop-preserved-then-not-owes g c =
     let a = c.args.caller.now in let b = c.loop.caller in let d = c.announce_again-is_announced.new.caller in (
       c.announce_again-is_announced.ensures.caller,
       goes_on a b d c.loop.invariant.1 c.announce_again-is_announced.ensures.goes_on,
-      subst (λ (t : TurnState _). IsTurnOf g.K.Station.state c.args.self.now t) (sym c.count_stop.ensures)
-          (turn_same g.K.Station.state c.args.self.now c.loop.turn c.in-Err.same c.loop.invariant.2 c.in-Err.ensures.same),
+      subst (λ (t : TurnState _). IsTurnOf g.K.Station.state g.K.Station.deals c.args.self.now t) (sym c.count_stop.ensures)
+          (turn_same g.K.Station.state g.K.Station.deals c.args.self.now c.loop.turn c.in-Err.same c.loop.invariant.2 c.in-Err.ensures.same c.in-Err.ensures.deals),
       c.announce_again-is_announced.ensures.next,
     )
 
@@ -22,7 +22,7 @@ pub loop-preserved : goal.loop-preserved
 loop-preserved g c = (
   c.loop.invariant.0,
   c.loop.invariant.1,
-  subst (λ (t : TurnState _). IsTurnOf g.K.Station.state c.args.self.now t) (sym c.count_stop.ensures)
-      (turn_same g.K.Station.state c.args.self.now c.loop.turn c.in-Err.same c.loop.invariant.2 c.in-Err.ensures.same),
+  subst (λ (t : TurnState _). IsTurnOf g.K.Station.state g.K.Station.deals c.args.self.now t) (sym c.count_stop.ensures)
+      (turn_same g.K.Station.state g.K.Station.deals c.args.self.now c.loop.turn c.in-Err.same c.loop.invariant.2 c.in-Err.ensures.same c.in-Err.ensures.deals),
   c.loop.invariant.3,
 )

@@ -11,8 +11,8 @@ invariant_of-self g c =
     record {
       taken = i.taken;
       within = i.within;
-      worker_is = handed_on k.state _ _ c.self.inside.runner c.drain.new.self i.worker_is c.drain.ensures.same
-          (drain_begins k.may k.gives c.args.limit a b c.drain.ensures.works);
+      worker_is = handed_on k.state k.deals _ _ c.self.inside.runner c.drain.new.self i.worker_is c.drain.ensures.same
+          (drain_begins k.may k.gives c.args.limit a b c.drain.ensures.works) c.drain.ensures.deals;
     }
 
 pub returns-clause-same : goal.returns-clause-same

@@ -13,8 +13,8 @@ invariant_of-self g c =
     record {
       taken = i.taken;
       within = i.within;
-      worker_is = handed_on k.state _ _ c.self.inside.runner c.work.new.self i.worker_is same
-          (works_begins k.may k.gives c.args.limit c.work.result a b c.work.ensures.works);
+      worker_is = handed_on k.state k.deals _ _ c.self.inside.runner c.work.new.self i.worker_is same
+          (works_begins k.may k.gives c.args.limit c.work.result a b c.work.ensures.works) c.work.ensures.deals;
     }
 
 pub invariant_of-result : goal.invariant_of-result
@@ -24,9 +24,9 @@ invariant_of-result g c =
     record {
       taken = i.taken;
       within = i.within;
-      worker_is = subst (λ w. IsHandedAt k.state c.self.inside.seat.me.0.handed c.self.inside.queue w) (sym c.into_served.ensures.same)
-          (handed_on k.state _ _ c.self.inside.runner c.work.new.self i.worker_is same
-          (works_begins k.may k.gives c.args.limit c.work.result a b c.work.ensures.works));
+      worker_is = subst (λ w. IsHandedAt k.state k.deals c.self.inside.seat.me.0.handed c.self.inside.queue w) (sym c.into_served.ensures.same)
+          (handed_on k.state k.deals _ _ c.self.inside.runner c.work.new.self i.worker_is same
+          (works_begins k.may k.gives c.args.limit c.work.result a b c.work.ensures.works) c.work.ensures.deals);
     }
 
 pub returns-then-not-work-clause-works : goal.returns-then-not-work-clause-works
