@@ -8,6 +8,8 @@ use crate::worker::team::{Fixed, destroy, new_queue, new_team, take_last};
 use std::alloc::Global;
 use std::process::Abort;
 use std::sync::Wait;
+use std::sync::atomic::AtomicU64;
+use std::sync::atomic::Ordering::SeqCst;
 use std::thread::{Threads, join_mut, yield_now};
 use wq_live::{Answer, Sender};
 use wq_worker::{Drained, Ran, Worker};
@@ -67,12 +69,15 @@ fn queue_through<R: Abort + Wait>(rt: &R, sender: &mut Sender, item: u32) -> u12
     unreachable!()
 }
 
-/// Queues the sender's own items in order, each until it is through. How often it was answered that the queue drains.
-fn queue_own<R: Abort + Wait>(rt: &R, sender: &mut Sender) -> u128
+/// Queues the sender's own items in order, each until it is through. The first queueing meets the drain that waits for it. How often
+/// it was answered that the queue drains.
+fn queue_own<R: Abort + Wait>(rt: &R, sender: &mut Sender, met: &AtomicU64) -> u128
     ensures { sender.new.queue ≡ sender.old.queue }
 {
     let first = sender.number().wrapping_mul(OWN);
-    let mut drains = 0u128;
+    expect_same(rt, queue_waiting(rt, sender, first), Answer::Draining);
+    met.fetch_add(1, SeqCst);
+    let mut drains = 1u128;
     for item in first..first.wrapping_add(OWN) {
         drains = drains.wrapping_add(queue_through(rt, sender, item));
     }
@@ -83,44 +88,50 @@ fn queue_pair<R: Abort + Threads + Wait + Sync>(
     rt: &R,
     first: &mut Sender,
     second: &mut Sender,
+    met: &AtomicU64,
 ) -> u128
     ensures { (first.new.queue ≡ first.old.queue) × (second.new.queue ≡ second.old.queue) }
 {
     let (one, two) = join_mut(
         rt,
-        &mut || queue_own(rt, first),
-        &mut || queue_own(rt, second),
+        &mut || queue_own(rt, first, met),
+        &mut || queue_own(rt, second, met),
     );
     one.wrapping_add(two)
 }
 
-fn queue_all<R: Abort + Threads + Wait + Sync>(rt: &R, crew: &mut Crew) -> u128
+fn queue_all<R: Abort + Threads + Wait + Sync>(rt: &R, crew: &mut Crew, met: &AtomicU64) -> u128
     ensures pairs { (crew.new.first.queue ≡ crew.old.first.queue) × (crew.new.second.queue ≡ crew.old.second.queue)
         × (crew.new.third.queue ≡ crew.old.third.queue) × (crew.new.fourth.queue ≡ crew.old.fourth.queue) }
     ensures last { crew.new.last.queue ≡ crew.old.last.queue }
 {
     let (one, two) = join_mut(
         rt,
-        &mut || queue_pair(rt, &mut crew.first, &mut crew.second),
-        &mut || queue_pair(rt, &mut crew.third, &mut crew.fourth),
+        &mut || queue_pair(rt, &mut crew.first, &mut crew.second, met),
+        &mut || queue_pair(rt, &mut crew.third, &mut crew.fourth, met),
     );
     one.wrapping_add(two)
 }
 
-/// Drains, by up to two executions a call, until as many have ended as the senders queue.
-fn drain_until_through<R: Wait>(rt: &R, worker: &mut Worker<Fixed>)
+/// Drains, by up to two executions a call once each sender has met the drain, until as many have ended as are queued.
+fn drain_until_through<R: Wait>(rt: &R, worker: &mut Worker<Fixed>, met: &AtomicU64)
     ensures { worker.new.queue ≡ worker.old.queue }
 {
     for _ in rt.forever() {
+        if met.load(SeqCst) < 4 {
+            yield_now();
+            continue;
+        }
         worker.drain(2);
-        if worker.counts().executed >= u128::from(OWN) * 4 {
+        if worker.counts().executed > u128::from(OWN) * 4 {
             return;
         }
     }
     unreachable!()
 }
 
-/// Drains while four senders queue in threads. How often they were answered that the queue drains.
+/// Begins a drain that comes to its limit at once, with the stop item left, and goes on with it while four senders queue in threads.
+/// How often they were answered that the queue drains.
 fn drain_beside<R: Abort + Threads + Wait + Sync>(
     rt: &R,
     worker: &mut Worker<Fixed>,
@@ -131,10 +142,13 @@ fn drain_beside<R: Abort + Threads + Wait + Sync>(
         × (crew.new.third.queue ≡ crew.old.third.queue) × (crew.new.fourth.queue ≡ crew.old.fourth.queue) }
     ensures last { crew.new.last.queue ≡ crew.old.last.queue }
 {
+    expect_same(rt, crew.last.request_stop(1), WAKES);
+    expect_same(rt, worker.drain(0), Drained::TooLong { left: 1 });
+    let met = AtomicU64::new(0);
     let (_, drains) = join_mut(
         rt,
-        &mut || drain_until_through(rt, worker),
-        &mut || queue_all(rt, crew),
+        &mut || drain_until_through(rt, worker, &met),
+        &mut || queue_all(rt, crew, &met),
     );
     drains
 }
@@ -152,7 +166,8 @@ fn ran_in_order(order: &[u32]) -> bool {
     next == [OWN, OWN * 2, OWN * 3, OWN * 4]
 }
 
-/// Four senders queue from threads of their own, each item until it is through, while the worker drains and resumes.
+/// Four senders queue from threads of their own, each item until it is through, while the worker drains and resumes. Each meets one
+/// drain at least.
 fn run_once<R: Abort + Threads + Wait + Sync>(rt: &R, alloc: Global) {
     let (owner, mut senders) = new_queue(rt, alloc, OWN * 4, 6);
     let own = take_last(rt, &owner, &mut senders);
@@ -164,8 +179,9 @@ fn run_once<R: Abort + Threads + Wait + Sync>(rt: &R, alloc: Global) {
     assert!(rt; ran_in_order(work.order.as_slice()));
     let ledgers = enter_all(rt, alloc, &mut book, &mut crew);
     let totals = book.balance(ledgers.as_slice()).expect(rt, "a balance");
-    expect_same(rt, (totals.queued, totals.executed), (64, 64));
+    expect_same(rt, (totals.queued, totals.executed), (65, 65));
     expect_same(rt, (totals.draining, totals.closed), (drains, 0));
+    assert!(rt; drains >= 4, "{drains}");
 }
 
 #[test]
