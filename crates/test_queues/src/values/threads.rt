@@ -1,9 +1,11 @@
 //! Senders with values and their owner in threads of their own.
+use super::drops::{alive, share};
 use super::reading::{close, execute_one, given_back};
 use crate::expect::expect_same;
 use crate::patience::Patience;
+use std::alloc::Global;
 use std::process::Abort;
-use std::test::Fail;
+use std::sync::{Arc, Wait};
 use std::thread::{Threads, join_mut, yield_now};
 use std::time::Clock;
 use wq_live::{Answer, ValueOwner, ValueSender, build_values};
@@ -28,12 +30,32 @@ pub(super) fn make_parcel(item: u32, number: u64) -> Parcel {
     }
 }
 
+/// A parcel, and a share in a value that counts its shares while they are not dropped.
+#[derive(Drop)]
+struct Counted {
+    parcel: Parcel,
+    _share: Arc<u32>,
+}
+
+fn make_counted<R: Abort>(rt: &R, item: u32, number: u64, shared: &Arc<u32>) -> Counted {
+    Counted {
+        parcel: make_parcel(item, number),
+        _share: share(rt, shared),
+    }
+}
+
 /// Queues these items in order, each with a parcel of its own, and each again with what came back where it was contended, at most
 /// 1,000 times. Answers how many were queued.
-fn queue_all(sender: &mut ValueSender<Parcel>, from: u32, to: u32) -> u32 {
+fn queue_all<R: Abort>(
+    rt: &R,
+    sender: &mut ValueSender<Counted>,
+    from: u32,
+    to: u32,
+    shared: &Arc<u32>,
+) -> u32 {
     let mut queued = 0u32;
     for item in from..to {
-        let mut next = Some(make_parcel(item, u64::from(item)));
+        let mut next = Some(make_counted(rt, item, u64::from(item), shared));
         for _ in 0..1000u32 {
             let Some(value) = next else {
                 break;
@@ -52,7 +74,11 @@ fn queue_all(sender: &mut ValueSender<Parcel>, from: u32, to: u32) -> u32 {
 }
 
 /// Executes what waits, for so many rounds, and appends what it was handed, in order.
-fn execute_for(owner: &mut ValueOwner<Parcel>, rounds: u32, into: &mut Vec<(u32, Parcel)>) -> bool {
+fn execute_for(
+    owner: &mut ValueOwner<Counted>,
+    rounds: u32,
+    into: &mut Vec<(u32, Counted)>,
+) -> bool {
     for _ in 0..rounds {
         match execute_one(owner) {
             Some((number, Some(value))) => {
@@ -68,10 +94,11 @@ fn execute_for(owner: &mut ValueOwner<Parcel>, rounds: u32, into: &mut Vec<(u32,
 }
 
 /// Each was handed its own parcel, and each half came in its sender's order.
-fn expect_halves<R: Abort>(rt: &R, executed: &[(u32, Parcel)], half: u32) {
+fn expect_halves<R: Abort>(rt: &R, executed: &[(u32, Counted)], half: u32) {
     let mut next = (0u32, half);
-    for &(number, value) in executed {
-        expect_same(rt, value, make_parcel(number, u64::from(number)));
+    for (number, value) in executed {
+        let number = *number;
+        expect_same(rt, value.parcel, make_parcel(number, u64::from(number)));
         if number < half {
             expect_same(rt, number, next.0);
             next.0 = next.0.wrapping_add(1);
@@ -83,55 +110,139 @@ fn expect_halves<R: Abort>(rt: &R, executed: &[(u32, Parcel)], half: u32) {
     expect_same(rt, next, (half, half.wrapping_mul(2)));
 }
 
-/// The two senders queue a half each in two threads, beside the owner in a third.
-fn queue_and_execute<R: Threads + Sync>(
+/// The owner of a queue of so many items, its two senders, and the value of which each parcel has a share.
+#[derive(Drop)]
+struct Seats {
+    owner: ValueOwner<Counted>,
+    first: ValueSender<Counted>,
+    second: ValueSender<Counted>,
+    shared: Arc<u32>,
+}
+
+fn new_seats<R: Abort>(rt: &R, alloc: Global, items: u32) -> Seats {
+    let layout = Layout::new(items, 1, 2).expect(rt, "a layout");
+    let (owner, mut senders) = build_values(alloc, layout).expect(rt, "memory for a queue");
+    Seats {
+        owner,
+        second: senders.pop().expect(rt, "sender 1"),
+        first: senders.pop().expect(rt, "sender 0"),
+        shared: Arc::new(alloc, 7u32).expect(rt, "a value"),
+    }
+}
+
+/// The two senders queue a half each in two threads. How many each of them queued.
+fn queue_halves<R: Abort + Threads + Sync>(
     rt: &R,
-    owner: &mut ValueOwner<Parcel>,
-    first: &mut ValueSender<Parcel>,
-    second: &mut ValueSender<Parcel>,
+    first: &mut ValueSender<Counted>,
+    second: &mut ValueSender<Counted>,
     half: u32,
-    executed: &mut Vec<(u32, Parcel)>,
-) -> ((u32, u32), bool) {
+    shared: &Arc<u32>,
+) -> (u32, u32) {
     join_mut(
         rt,
-        &mut || {
-            join_mut(
-                rt,
-                &mut || queue_all(first, 0, half),
-                &mut || queue_all(second, half, half.wrapping_mul(2)),
-            )
-        },
-        &mut || execute_for(owner, 200_000, executed),
+        &mut || queue_all(rt, first, 0, half, shared),
+        &mut || queue_all(rt, second, half, half.wrapping_mul(2), shared),
     )
 }
 
+/// The two senders queue, beside the owner in a third thread. Each value is there as long as it is in the list of what was executed,
+/// and is dropped once, with it.
 #[test]
-fn two_threads_queue_values_in_their_order(rt: HostRuntime) -> Result<(), Fail> {
-    let layout = Layout::new(512, 1, 2)?;
-    let (mut owner, mut senders) = build_values(rt.alloc(), layout)?;
-    let mut second = senders.pop().expect(&rt, "sender 1");
-    let mut first = senders.pop().expect(&rt, "sender 0");
+fn two_threads_queue_values_in_their_order(rt: HostRuntime) {
+    let Seats {
+        mut owner,
+        mut first,
+        mut second,
+        shared,
+    } = new_seats(&rt, rt.alloc(), 512);
     let mut executed = Vec::new(rt.alloc());
-    let (queued, ran) = queue_and_execute(
+    let (queued, ran) = join_mut(
         &rt,
-        &mut owner,
-        &mut first,
-        &mut second,
-        256,
-        &mut executed,
+        &mut || queue_halves(&rt, &mut first, &mut second, 256, &shared),
+        &mut || execute_for(&mut owner, 200_000, &mut executed),
     );
     expect_same(&rt, (queued, ran), ((256, 256), true));
     assert!(rt; close(&mut owner).is_some());
     assert!(rt; execute_for(&mut owner, 513, &mut executed));
     assert!(rt; owner.done().is_some());
     expect_halves(&rt, executed.as_slice(), 256);
-    Ok(())
+    expect_same(&rt, alive(&shared), 512);
+    drop(executed);
+    expect_same(&rt, alive(&shared), 0);
+}
+
+/// Queues a half, and then the seat goes.
+fn queue_and_go<R: Abort>(
+    rt: &R,
+    seat: &mut Option<ValueSender<Counted>>,
+    from: u32,
+    to: u32,
+    shared: &Arc<u32>,
+) -> u32 {
+    let Some(mut sender) = seat.take() else {
+        return 0;
+    };
+    let queued = queue_all(rt, &mut sender, from, to, shared);
+    drop(sender);
+    queued
+}
+
+/// Both queue a half each in threads, and go.
+fn queue_halves_and_go<R: Abort + Threads + Sync>(
+    rt: &R,
+    first: &mut Option<ValueSender<Counted>>,
+    second: &mut Option<ValueSender<Counted>>,
+    half: u32,
+    shared: &Arc<u32>,
+) -> (u32, u32) {
+    join_mut(
+        rt,
+        &mut || queue_and_go(rt, first, 0, half, shared),
+        &mut || queue_and_go(rt, second, half, half.wrapping_mul(2), shared),
+    )
+}
+
+/// Executes so many numbers, each as it comes, and drops what it was handed.
+fn execute_and_drop<R: Wait>(rt: &R, owner: &mut ValueOwner<Counted>, count: u32) {
+    let mut executed = 0u32;
+    for _ in rt.forever() {
+        if executed >= count {
+            return;
+        }
+        match execute_one(owner) {
+            Some(_) => executed = executed.wrapping_add(1),
+            None => yield_now(),
+        }
+    }
+}
+
+/// Senders that queue in threads and go leave their values, of which those that the owner executes are dropped as it does, and the
+/// others with the owner, the last seat.
+#[test]
+fn senders_go_and_each_value_is_dropped_once(rt: HostRuntime) {
+    let Seats {
+        mut owner,
+        first,
+        second,
+        shared,
+    } = new_seats(&rt, rt.alloc(), 512);
+    let mut seats = (Some(first), Some(second));
+    let (queued, _) = join_mut(
+        &rt,
+        &mut || queue_halves_and_go(&rt, &mut seats.0, &mut seats.1, 256, &shared),
+        &mut || execute_and_drop(&rt, &mut owner, 100),
+    );
+    expect_same(&rt, (queued, alive(&shared)), ((256, 256), 412));
+    execute_and_drop(&rt, &mut owner, 200);
+    expect_same(&rt, alive(&shared), 212);
+    drop(owner);
+    expect_same(&rt, alive(&shared), 0);
 }
 
 /// Queues all items but the first in one try each, one after another and over and over, until one was contended and the very value
 /// came back, for as long as the test has patience. Then it queues the stop item. There are so many that its tries fill a turn on a
 /// processor that it shares with the owner's thread, which then comes in between; where one is still pending it lets that thread go on.
-fn contend<R: Clock>(rt: &R, sender: &mut ValueSender<Parcel>) -> bool {
+fn contend<R: Abort + Clock>(rt: &R, sender: &mut ValueSender<Counted>, shared: &Arc<u32>) -> bool {
     let patience = Patience::begin(rt);
     let mut is_contended = false;
     let mut item = 0u32;
@@ -144,10 +255,10 @@ fn contend<R: Clock>(rt: &R, sender: &mut ValueSender<Parcel>) -> bool {
             item = 0;
             continue;
         }
-        let value = make_parcel(item, number);
+        let value = make_counted(rt, item, number, shared);
         match given_back(sender.queue_value(item, value, 1)) {
             (Answer::Contended, Some(back)) => {
-                is_contended = back == value;
+                is_contended = back.parcel == make_parcel(item, number);
                 break;
             }
             (Answer::Pending, _) => yield_now(),
@@ -160,14 +271,21 @@ fn contend<R: Clock>(rt: &R, sender: &mut ValueSender<Parcel>) -> bool {
 
 /// Queues the first item with a value and executes what waits, over and over, until the stop item was executed. Whether each that was
 /// executed was handed a value of its own.
-fn churn(owner: &mut ValueOwner<Parcel>, sender: &mut ValueSender<Parcel>, stop: u32) -> bool {
+fn churn<R: Abort>(
+    rt: &R,
+    owner: &mut ValueOwner<Counted>,
+    sender: &mut ValueSender<Counted>,
+    shared: &Arc<u32>,
+) -> bool {
+    let stop = owner.layout().stop();
     let mut are_own = true;
     for round in 0..u32::MAX {
         if 0 < sender.layout().items {
-            given_back(sender.queue_value(0, make_parcel(0, u64::from(round)), 1));
+            let value = make_counted(rt, 0, u64::from(round), shared);
+            given_back(sender.queue_value(0, value, 1));
         }
         match execute_one(owner) {
-            Some((number, Some(value))) => are_own = are_own && value.item == number,
+            Some((number, Some(value))) => are_own = are_own && value.parcel.item == number,
             Some((number, None)) if number == stop => return are_own,
             Some((_, None)) => return false,
             None => {}
@@ -176,17 +294,23 @@ fn churn(owner: &mut ValueOwner<Parcel>, sender: &mut ValueSender<Parcel>, stop:
     false
 }
 
+/// A value whose queueing lost its try comes back, and each value is dropped once: as it was executed or came back, or with the seats.
 #[test]
-fn value_comes_back_where_a_try_was_lost(rt: HostRuntime) -> Result<(), Fail> {
-    let layout = Layout::new(ITEMS, 1, 2)?;
-    let (mut owner, mut senders) = build_values(rt.alloc(), layout)?;
-    let mut second = senders.pop().expect(&rt, "sender 1");
-    let mut first = senders.pop().expect(&rt, "sender 0");
+fn value_comes_back_where_a_try_was_lost(rt: HostRuntime) {
+    let Seats {
+        mut owner,
+        mut first,
+        mut second,
+        shared,
+    } = new_seats(&rt, rt.alloc(), ITEMS);
     let (contended, own) = join_mut(
         &rt,
-        &mut || contend(&rt, &mut first),
-        &mut || churn(&mut owner, &mut second, layout.stop()),
+        &mut || contend(&rt, &mut first, &shared),
+        &mut || churn(&rt, &mut owner, &mut second, &shared),
     );
     expect_same(&rt, (contended, own), (true, true));
-    Ok(())
+    drop(owner);
+    drop(first);
+    drop(second);
+    expect_same(&rt, alive(&shared), 0);
 }
