@@ -1,6 +1,7 @@
 //! Queues whose items bring values.
 mod again;
 mod drops;
+mod flushing;
 mod owing;
 mod reading;
 mod rows;
