@@ -5,6 +5,7 @@ mod flushing;
 mod owing;
 mod reading;
 mod rows;
+mod serving;
 mod threads;
 mod worker;
 mod worker_drops;

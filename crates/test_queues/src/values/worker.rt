@@ -179,7 +179,7 @@ enum Door {
 }
 
 /// Four pairs: the second's item is pending by then, and the third's number is that of the barrier.
-fn four_pairs<R: Abort>(rt: &R) -> ValueFollow<u64> {
+pub(super) fn four_pairs<R: Abort>(rt: &R) -> ValueFollow<u64> {
     let mut asks = ValueFollow::new();
     for (item, value) in [(5u32, 50u64), (2, 21), (8, 80), (4, 40)] {
         assert!(rt; asks.push(item, value).is_ok());

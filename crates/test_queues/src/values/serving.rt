@@ -1,0 +1,185 @@
+//! A worker whose items bring values, as it serves in a thread of its own, and as it runs up to a limit.
+ghost use Rattle.std.specs.Prelude.{◌≡◌};
+
+use super::worker::{Keeping, destroy, four_pairs, new_team, new_worker, queue, take_last};
+use crate::expect::expect_same;
+use crate::seats::FIRST;
+use crossbeam_utils::sync::{Parker, Unparker};
+use std::alloc::Global;
+use std::hint::spin_loop;
+use std::process::Abort;
+use std::sync::Wait;
+use std::test::Fail;
+use std::thread::{Threads, join_mut};
+use wq_live::{Answer, Spins, ValueAnswer, ValueSender};
+use wq_worker::{Totals, ValueFollow, ValueWork, ValueWorker};
+
+/// How many items of its own each of two senders queues.
+const OWN: u32 = 64;
+
+/// What an item brings.
+fn value_of(item: u32) -> u64 {
+    u64::from(item).wrapping_mul(3)
+}
+
+/// Queues an item with its value, and wakes the worker where the list was empty: a worker that serves never rests, so `wakes` says
+/// nothing of it.
+fn queue_waking<R: Abort + Wait>(
+    rt: &R,
+    sender: &mut ValueSender<u64>,
+    item: u32,
+    unparker: &Unparker,
+)
+    ensures { sender.new.known.queue ≡ sender.old.known.queue }
+{
+    assert!(rt; item < sender.layout().items);
+    match sender.queue_value_wait(rt, item, value_of(item)) {
+        ValueAnswer::Queued { first, .. } => {
+            if first {
+                unparker.unpark();
+            }
+        }
+        _ => panic!(rt; "item {item}"),
+    }
+}
+
+/// Queues the sender's own items in order, with a longer pause before each eighth, in which the worker comes to park.
+fn queue_own<R: Abort + Wait>(rt: &R, sender: &mut ValueSender<u64>, unparker: &Unparker)
+    ensures { sender.new.known.queue ≡ sender.old.known.queue }
+{
+    let from = sender.number().wrapping_mul(OWN);
+    for item in from..from.wrapping_add(OWN) {
+        if item % 8 == 0 {
+            for _ in 0..20_000u32 {
+                spin_loop();
+            }
+        }
+        queue_waking(rt, sender, item, unparker);
+    }
+}
+
+/// Two senders queue their own items in threads, and then one of them the stop item.
+fn queue_and_stop<R: Abort + Threads + Wait + Sync>(
+    rt: &R,
+    first: &mut ValueSender<u64>,
+    second: &mut ValueSender<u64>,
+    unparker: &Unparker,
+)
+    ensures { (first.new.known.queue ≡ first.old.known.queue) × (second.new.known.queue ≡ second.old.known.queue) }
+{
+    join_mut(
+        rt,
+        &mut || queue_own(rt, first, unparker),
+        &mut || queue_own(rt, second, unparker),
+    );
+    if let Answer::Queued { first: true, .. } = second.request_stop(u32::MAX) {
+        unparker.unpark();
+    }
+}
+
+fn serve<R: Abort + Wait, V: Drop, W: ValueWork<V>>(
+    rt: &R,
+    worker: &mut ValueWorker<V, W>,
+    parker: &mut Parker,
+)
+    ensures { worker.new.worker.queue ≡ worker.old.worker.queue }
+{
+    assert!(rt; !worker.is_closed() && !worker.is_draining());
+    worker.serve(rt, parker);
+}
+
+/// The worker serves in a thread beside its senders.
+fn serve_beside<R: Abort + Threads + Wait + Sync, W: ValueWork<u64> + Send>(
+    rt: &R,
+    alloc: Global,
+    worker: &mut ValueWorker<u64, W>,
+    first: &mut ValueSender<u64>,
+    second: &mut ValueSender<u64>,
+)
+    ensures { worker.new.worker.queue ≡ worker.old.worker.queue }
+{
+    let mut parker = Parker::new(alloc).expect(rt, "memory for a parker");
+    let unparker = parker.unparker().clone().expect(rt, "one unparker more");
+    join_mut(
+        rt,
+        &mut || serve(rt, worker, &mut parker),
+        &mut || queue_and_stop(rt, first, second, &unparker),
+    );
+}
+
+/// Each item ran with its value, and each sender's in their order.
+fn expect_in_order<R: Abort>(rt: &R, ran: &[(u32, u64)]) {
+    let mut next = (0u32, OWN);
+    for &(item, value) in ran {
+        expect_same(rt, (item, value), (item, value_of(item)));
+        if item < OWN {
+            expect_same(rt, item, next.0);
+            next.0 = next.0.wrapping_add(1);
+        } else {
+            expect_same(rt, item, next.1);
+            next.1 = next.1.wrapping_add(1);
+        }
+    }
+    expect_same(rt, next, (OWN, OWN * 2));
+}
+
+fn serve_once<R: Abort + Threads + Wait + Sync>(rt: &R, alloc: Global, spins: Spins) {
+    let work = Keeping::asking(rt, alloc, ValueFollow::new());
+    let (mut worker, mut senders) = new_worker(rt, alloc, OWN * 2, work);
+    let mut second = take_last(rt, &worker, &mut senders);
+    let mut first = take_last(rt, &worker, &mut senders);
+    worker.set_spins(spins);
+    serve_beside(rt, alloc, &mut worker, &mut first, &mut second);
+    expect_same(rt, worker.counts().executed, 129);
+    let (work, _book) = destroy(rt, worker, 0);
+    expect_in_order(rt, work.ran.as_slice());
+    expect_same(rt, work.came_back.len(), 0);
+}
+
+/// A worker that serves runs all that two senders queue in threads, each item with its value, is woken where it has parked, and ends
+/// with the stop item, in each of 20 runs.
+#[test]
+fn served_worker_runs_values_and_ends(rt: HostRuntime) -> Result<(), Fail> {
+    let spins = Spins::measured(&rt)?;
+    for run in 0..20u32 {
+        let is_measured = run % 2 == 0;
+        let chosen = if is_measured { spins } else { Spins::default() };
+        serve_once(&rt, rt.alloc(), chosen);
+    }
+    Ok(())
+}
+
+/// What the worker's seats have counted by so many executions, of which the first asked for four pairs.
+fn totals(executed: u128) -> Totals {
+    Totals {
+        queued: 2,
+        chained: 0,
+        executed,
+        pending: 1,
+        closed: 0,
+        draining: 0,
+        contended: 0,
+    }
+}
+
+/// A call runs up to its limit, or until nothing waits, or the stop item ran, and the next one goes on. The counts are those of the
+/// worker's own seats. A sender that the worker met goes on too.
+#[test]
+fn runs_up_to_a_limit(rt: HostRuntime) {
+    let mut team = new_team(&rt, rt.alloc(), four_pairs(&rt));
+    queue(&rt, &mut team.first, 0, 7);
+    queue(&rt, &mut team.second, 2, 20);
+    expect_same(&rt, team.worker.run_some(0), 0);
+    expect_same(&rt, team.worker.run_some(1), 1);
+    team.worker.meet(&mut team.first);
+    expect_same(&rt, team.worker.counts(), totals(1));
+    expect_same(&rt, team.worker.run_some(9), 3);
+    expect_same(&rt, team.worker.run_some(9), 0);
+    expect_same(&rt, team.second.request_stop(1), FIRST);
+    queue(&rt, &mut team.first, 3, 30);
+    expect_same(&rt, team.worker.run_some(9), 1);
+    expect_same(&rt, team.worker.counts(), totals(5));
+    let (work, _book) = destroy(&rt, team.worker, 1);
+    let ran = [(0, 7), (2, 20), (5, 50), (4, 40), (3, 30)];
+    expect_same(&rt, work.ran.as_slice(), ran.as_slice());
+}
