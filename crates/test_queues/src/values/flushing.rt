@@ -53,7 +53,7 @@ fn execute_late<R: Clock + Wait, V: Drop>(rt: &R, owner: &mut ValueOwner<V>, las
     unreachable!()
 }
 
-/// A flush returns once all that was queued before it has ended: then the owner has dropped each value, and none before.
+/// A flush returns once all that was queued before it has ended: by then the owner has dropped each value.
 #[test]
 fn flush_waits_for_the_values_before_it(rt: HostRuntime) -> Result<(), Fail> {
     let (mut owner, mut sender) = seats(rt.alloc(), ITEMS).expect(&rt, "seats");
