@@ -1,7 +1,7 @@
 //! The examples of a user's own threads, of messages that they hand over, and of a worker.
 use crate::expect::expect_same;
 use crate::latch::Latch;
-use example_threads::{queue_and_destroy, run};
+use example_threads::{queue_and_destroy, run, run_served};
 use example_values::run as hand_over;
 use std::alloc::Global;
 use std::process::Abort;
@@ -39,6 +39,37 @@ fn all_are_executed(rt: HostRuntime) {
     let (_, ended) = join(
         &rt,
         || run_often(&rt, rt.alloc(), &over),
+        || {
+            assert!(rt; over.stop(), "a run does not end");
+            true
+        },
+    );
+    assert!(rt; ended);
+}
+
+/// A worker serves beside two senders: each run ends with their items and the stop item executed.
+fn serve_often<R: Abort + Threads + Wait + Sync>(rt: &R, alloc: Global, over: &Latch) {
+    for _run in 0..RUNS {
+        let layout = Layout::new(200, 1, 3).expect(rt, "a layout");
+        let Ok(served) = run_served(rt, alloc, layout, EACH) else {
+            panic!(rt; "nothing was served");
+        };
+        let totals = served.totals;
+        expect_same(
+            rt,
+            (totals.queued, totals.chained, totals.executed),
+            (201, 0, 201),
+        );
+    }
+    over.open();
+}
+
+#[test]
+fn all_are_served(rt: HostRuntime) {
+    let over = Latch::new();
+    let (_, ended) = join(
+        &rt,
+        || serve_often(&rt, rt.alloc(), &over),
         || {
             assert!(rt; over.stop(), "a run does not end");
             true

@@ -407,7 +407,7 @@ impl<V: Drop, W: ValueWork<V>> ValueWorker<V, W> {
         drained
     }
 
-    /// As `Worker::serve`, with the pairs of each step dealt out as by `run_one`.
+    /// As `Worker::serve`, with the pairs of each step dealt out as by `run_one`. Its senders, too, unpark it on `first`.
     pub fn serve<R: Wait>(&mut self, rt: &R, parker: &Parker)
         requires open { ¬ IsShut self.old.worker.seen }
         ensures deals { Along (DealsInStep W.given W.may W.takes) self.old self.new }

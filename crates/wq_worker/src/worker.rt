@@ -369,9 +369,10 @@ impl<W: Work> Worker<W> {
         drained
     }
 
-    /// Executes until the stop item ran. It parks where nothing waits, so who queues something unparks it, and goes on at once
-    /// where an execution is owed. Some time passes after a take of fewer than `SHORT_TAKE` numbers, and before it parks, so that
-    /// a busy queue is taken from seldom and pays for no wake-up.
+    /// Executes until the stop item ran. It parks where nothing waits, so who queues something unparks it, where the answer says
+    /// `first`. It never rests, so it is not enough to unpark it on `wakes`. It goes on at once where an execution is owed. Some
+    /// time passes after a take of fewer than `SHORT_TAKE` numbers, and before it parks, so that a busy queue is taken from seldom
+    /// and pays for no wake-up.
     pub fn serve<R: Wait>(&mut self, rt: &R, parker: &Parker)
         requires open { ¬ IsShut self.old.seen }
         ensures serves { Serves W.may self.old self.new }
