@@ -1,7 +1,7 @@
 //! A worker whose items bring values, as it serves in a thread of its own, and as it runs up to a limit.
 ghost use Rattle.std.specs.Prelude.{◌≡◌};
 
-use super::worker::{Keeping, destroy, four_pairs, new_team, new_worker, queue, take_last};
+use super::worker::{Keeping, Team, destroy, four_pairs, new_team, new_worker, queue, take_last};
 use crate::expect::expect_same;
 use crate::seats::FIRST;
 use crossbeam_utils::sync::{Parker, Unparker};
@@ -166,20 +166,24 @@ fn totals(executed: u128) -> Totals {
 /// worker's own seats. A sender that the worker met goes on too.
 #[test]
 fn runs_up_to_a_limit(rt: HostRuntime) {
-    let mut team = new_team(&rt, rt.alloc(), four_pairs(&rt));
-    queue(&rt, &mut team.first, 0, 7);
-    queue(&rt, &mut team.second, 2, 20);
-    expect_same(&rt, team.worker.run_some(0), 0);
-    expect_same(&rt, team.worker.run_some(1), 1);
-    team.worker.meet(&mut team.first);
-    expect_same(&rt, team.worker.counts(), totals(1));
-    expect_same(&rt, team.worker.run_some(9), 3);
-    expect_same(&rt, team.worker.run_some(9), 0);
-    expect_same(&rt, team.second.request_stop(1), FIRST);
-    queue(&rt, &mut team.first, 3, 30);
-    expect_same(&rt, team.worker.run_some(9), 1);
-    expect_same(&rt, team.worker.counts(), totals(5));
-    let (work, _book) = destroy(&rt, team.worker, 1);
+    let Team {
+        mut worker,
+        mut first,
+        mut second,
+    } = new_team(&rt, rt.alloc(), four_pairs(&rt));
+    queue(&rt, &mut first, 0, 7);
+    queue(&rt, &mut second, 2, 20);
+    expect_same(&rt, worker.run_some(0), 0);
+    expect_same(&rt, worker.run_some(1), 1);
+    worker.meet(&mut first);
+    expect_same(&rt, worker.counts(), totals(1));
+    expect_same(&rt, worker.run_some(9), 3);
+    expect_same(&rt, worker.run_some(9), 0);
+    expect_same(&rt, second.request_stop(1), FIRST);
+    queue(&rt, &mut first, 3, 30);
+    expect_same(&rt, worker.run_some(9), 1);
+    expect_same(&rt, worker.counts(), totals(5));
+    let (work, _book) = destroy(&rt, worker, 1);
     let ran = [(0, 7), (2, 20), (5, 50), (4, 40), (3, 30)];
     expect_same(&rt, work.ran.as_slice(), ran.as_slice());
 }
