@@ -7,6 +7,7 @@ mod one_worker;
 mod queueing;
 mod running;
 mod served;
+mod waking;
 
 pub use executing::execute_all;
 pub use one_worker::{Runs, queue_and_destroy};

@@ -1,11 +1,11 @@
-//! A sender, which queues its items and wakes the owner where an answer says so.
+//! A sender, which queues its items and wakes who executes them where an answer says so.
 ghost use Rattle.std.specs.Prelude.{◌≡◌, ◌<◌, ◌≤◌, ◌++◌, []};
 ghost use Rattle.wq_live.specs.History.{accepted};
 ghost use Rattle.wq_live.specs.Seen.{own};
 ghost use Rattle.wq_live.specs.Known.{IsSame};
 ghost use Rattle.wq_live.specs.Laws.{queued_number};
 
-use crossbeam_utils::sync::Unparker;
+use crate::waking::Waker;
 use std::sync::Wait;
 use trail::Trail;
 use wq_live::{Answer, Sender, queued_is_accepted};
@@ -17,15 +17,8 @@ pub struct Told {
     pub queued: Trail,
 }
 
-/// Wakes the owner, where the answer says so.
-fn wake(answer: Answer, unparker: &Unparker) {
-    if let Answer::Queued { wakes: true, .. } = answer {
-        unparker.unpark();
-    }
-}
-
 /// The list with the number, if the answer is `Queued`.
-pub(crate) fn tell(queued: Trail, number: u32, answer: Answer) -> Trail
+fn tell(queued: Trail, number: u32, answer: Answer) -> Trail
     ensures told { result.items ≡ queued.items ++ queued_number number answer }
 {
     match answer {
@@ -35,14 +28,14 @@ pub(crate) fn tell(queued: Trail, number: u32, answer: Answer) -> Trail
 }
 
 /// One queueing. What was accepted of the sender grows by the item, if the answer is `Queued`.
-fn queue<R: Wait>(rt: &R, sender: &mut Sender, item: u32, unparker: &Unparker) -> Answer
+fn queue<R: Wait>(rt: &R, sender: &mut Sender, item: u32, waker: &Waker) -> Answer
     requires item { item < sender.old.layout.items }
     ensures same { IsSame sender.old sender.new }
     ensures accepted { accepted (own sender.old.number sender.new.seen) ≡ accepted (own sender.old.number sender.old.seen) ++ queued_number item result }
 {
     queued_is_accepted();
     let answer = sender.queue(rt, item);
-    wake(answer, unparker);
+    waker.wake(answer);
     answer
 }
 
@@ -52,7 +45,7 @@ pub(crate) fn queue_own<R: Wait>(
     mut sender: Sender,
     from: u32,
     to: u32,
-    unparker: &Unparker,
+    waker: &Waker,
 ) -> Told
     requires from { from ≤ to }
     requires to { to ≤ sender.layout.items }
@@ -62,14 +55,14 @@ pub(crate) fn queue_own<R: Wait>(
 {
     let mut queued = Trail::new();
     for item in from..to {
-        let answer = queue(rt, &mut sender, item, unparker);
+        let answer = queue(rt, &mut sender, item, waker);
         queued = tell(queued, item, answer);
     }
     Told { sender, queued }
 }
 
 /// Queues the stop item, behind all that the sender queued.
-pub(crate) fn stop(told: Told, unparker: &Unparker) -> Told
+pub(crate) fn stop(told: Told, waker: &Waker) -> Told
     requires accepted { accepted (own told.sender.number told.sender.seen) ≡ told.queued.items }
     ensures same { IsSame told.sender result.sender }
     ensures accepted { accepted (own told.sender.number result.sender.seen) ≡ result.queued.items }
@@ -78,7 +71,7 @@ pub(crate) fn stop(told: Told, unparker: &Unparker) -> Told
     let number = sender.layout().stop();
     queued_is_accepted();
     let answer = sender.request_stop(u32::MAX);
-    wake(answer, unparker);
+    waker.wake(answer);
     Told {
         sender,
         queued: tell(queued, number, answer),

@@ -8,7 +8,8 @@ ghost use Rattle.example_threads.specs.Met.{IsHistoryOf};
 
 use crate::executing::execute_all;
 use crate::queueing::{Told, queue_own, stop};
-use crossbeam_utils::sync::{Parker, Unparker};
+use crate::waking::{Waker, WakesOn};
+use crossbeam_utils::sync::Parker;
 use std::alloc::Global;
 use std::sync::Wait;
 use std::thread::{Threads, join};
@@ -62,7 +63,7 @@ fn queue_all<R: Threads + Wait + Sync>(
     rt: &R,
     senders: Senders,
     each: u32,
-    unparker: &Unparker,
+    waker: &Waker,
 ) -> ((Told, Told), Told)
     requires items { (each * 3 ≤ senders.first.layout.items) × (each * 3 ≤ senders.second.layout.items) × (each * 3 ≤ senders.third.layout.items) }
     requires new { (senders.first.seen ≡ []) × (senders.second.seen ≡ []) × (senders.third.seen ≡ []) }
@@ -88,19 +89,19 @@ fn queue_all<R: Threads + Wait + Sync>(
                 move ||
                     requires { (each * 3 ≤ first.layout.items) × (first.seen ≡ []) }
                     ensures { IsSame first result.sender × (accepted (own first.number result.sender.seen) ≡ result.queued.items) }
-                { queue_own(rt, first, 0, each, unparker) },
+                { queue_own(rt, first, 0, each, waker) },
                 move ||
                     requires { (each * 3 ≤ second.layout.items) × (second.seen ≡ []) }
                     ensures { IsSame second result.sender × (accepted (own second.number result.sender.seen) ≡ result.queued.items) }
-                { queue_own(rt, second, each, each * 2, unparker) },
+                { queue_own(rt, second, each, each * 2, waker) },
             )
         },
         move ||
             requires { (each * 3 ≤ third.layout.items) × (third.seen ≡ []) }
             ensures { IsSame third result.sender × (accepted (own third.number result.sender.seen) ≡ result.queued.items) }
-        { queue_own(rt, third, each * 2, each * 3, unparker) },
+        { queue_own(rt, third, each * 2, each * 3, waker) },
     );
-    (both, stop(last, unparker))
+    (both, stop(last, waker))
 }
 
 /// The owner executes while the senders queue. When the stop item ran, it closes the queue, and all four meet.
@@ -110,7 +111,7 @@ fn queue_and_execute<R: Threads + Wait + Sync>(
     senders: Senders,
     each: u32,
     parker: Parker,
-    unparker: &Unparker,
+    waker: &Waker,
 ) -> Met
     requires items { each * 3 ≤ owner.layout.items }
     requires owner { owner ≡ new_owner owner.queue owner.layout }
@@ -136,7 +137,7 @@ fn queue_and_execute<R: Threads + Wait + Sync>(
             ensures { IsSame senders.first result.0.0.sender × (accepted (own senders.first.number result.0.0.sender.seen) ≡ result.0.0.queued.items)
                 × IsSame senders.second result.0.1.sender × (accepted (own senders.second.number result.0.1.sender.seen) ≡ result.0.1.queued.items)
                 × IsSame senders.third result.1.sender × (accepted (own senders.third.number result.1.sender.seen) ≡ result.1.queued.items) }
-        { queue_all(rt, senders, each, unparker) },
+        { queue_all(rt, senders, each, waker) },
     );
     meet(
         &mut first.sender,
@@ -166,7 +167,10 @@ pub fn run<R: Threads + Wait + Sync>(
     ensures history { IfOk result (λ met. IsHistoryOf met.owner.layout met.owner.seen met) }
 {
     let parker = Parker::new(alloc)?;
-    let unparker = parker.unparker().clone()?;
+    let waker = Waker {
+        unparker: parker.unparker().clone()?,
+        on: WakesOn::Rest,
+    };
     let (owner, mut senders) = build(alloc, layout)?;
     let Some(third) = senders.pop() else {
         unreachable!()
@@ -182,5 +186,5 @@ pub fn run<R: Threads + Wait + Sync>(
         second,
         third,
     };
-    Ok(queue_and_execute(rt, owner, senders, each, parker, &unparker))
+    Ok(queue_and_execute(rt, owner, senders, each, parker, &waker))
 }

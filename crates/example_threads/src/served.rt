@@ -1,23 +1,23 @@
 //! A worker that serves in a thread of its own, and beside it two senders in theirs.
-ghost use Rattle.std.specs.Prelude.{◌≡◌, ◌+◌, ◌*◌, ◌<◌, ◌≤◌, ◌++◌, [], IfOk};
+ghost use Rattle.std.specs.Prelude.{◌≡◌, ◌+◌, ◌*◌, ◌<◌, ◌≤◌, [], IfOk};
 ghost use Rattle.wq_worker.specs.History.{accepted, ended, IsShut};
 ghost use Rattle.wq_worker.specs.Legal.{IsLegal, IsComplete};
 ghost use Rattle.wq_worker.specs.Headline.{KeepsHeadline};
 ghost use Rattle.wq_worker.specs.Seen.{own};
 ghost use Rattle.wq_worker.specs.Known.{IsSame, new_sender};
-ghost use Rattle.wq_worker.specs.Laws.{queued_number};
 ghost use Rattle.wq_worker.specs.Book.{IsLedgerOf};
 ghost use Rattle.wq_worker.specs.State.{IsSameWorker, items_among};
 ghost use Rattle.example_threads.specs.Met.{TellsOwn};
 
 use crate::one_worker::Runs;
-use crate::queueing::{Told, tell};
-use crossbeam_utils::sync::{Parker, Unparker};
+use crate::queueing::{Told, queue_own, stop};
+use crate::waking::{Waker, WakesOn};
+use crossbeam_utils::sync::Parker;
 use std::alloc::Global;
 use std::sync::Wait;
 use std::thread::{Threads, join};
 use trail::Trail;
-use wq_live::{Answer, Sender, queued_is_accepted};
+use wq_live::Sender;
 use wq_words::Layout;
 use wq_worker::{Book, Ledger, Totals, Unbalanced, Worker};
 
@@ -42,65 +42,13 @@ pub enum Unserved {
     Unbalanced(Unbalanced),
 }
 
-/// Wakes the worker, where the list was empty. A worker that serves never rests, so `wakes` says nothing of it.
-fn wake(answer: Answer, unparker: &Unparker) {
-    if let Answer::Queued { first: true, .. } = answer {
-        unparker.unpark();
-    }
-}
-
-/// One queueing. What was accepted of the sender grows by the item, if the answer is `Queued`.
-fn queue<R: Wait>(rt: &R, sender: &mut Sender, item: u32, unparker: &Unparker) -> Answer
-    requires item { item < sender.old.layout.items }
-    ensures same { IsSame sender.old sender.new }
-    ensures accepted { accepted (own sender.old.number sender.new.seen) ≡ accepted (own sender.old.number sender.old.seen) ++ queued_number item result }
-{
-    queued_is_accepted();
-    let answer = sender.queue(rt, item);
-    wake(answer, unparker);
-    answer
-}
-
-/// Queues these items in their order, once each.
-fn queue_own<R: Wait>(rt: &R, mut sender: Sender, from: u32, to: u32, unparker: &Unparker) -> Told
-    requires from { from ≤ to }
-    requires to { to ≤ sender.layout.items }
-    requires new { sender.seen ≡ [] }
-    ensures same { IsSame sender result.sender }
-    ensures accepted { accepted (own sender.number result.sender.seen) ≡ result.queued.items }
-{
-    let mut queued = Trail::new();
-    for item in from..to {
-        let answer = queue(rt, &mut sender, item, unparker);
-        queued = tell(queued, item, answer);
-    }
-    Told { sender, queued }
-}
-
-/// Queues the stop item, behind all that was queued.
-fn stop(told: Told, unparker: &Unparker) -> Told
-    requires accepted { accepted (own told.sender.number told.sender.seen) ≡ told.queued.items }
-    ensures same { IsSame told.sender result.sender }
-    ensures accepted { accepted (own told.sender.number result.sender.seen) ≡ result.queued.items }
-{
-    let Told { mut sender, queued } = told;
-    let number = sender.layout().stop();
-    queued_is_accepted();
-    let answer = sender.request_stop(u32::MAX);
-    wake(answer, unparker);
-    Told {
-        sender,
-        queued: tell(queued, number, answer),
-    }
-}
-
 /// Two senders queue so many items each, of their own, in two threads. When both have ended, the second queues the stop item.
 fn queue_both<R: Threads + Wait + Sync>(
     rt: &R,
     first: Sender,
     second: Sender,
     each: u32,
-    unparker: &Unparker,
+    waker: &Waker,
 ) -> (Told, Told)
     requires items { (each * 2 ≤ first.layout.items) × (each * 2 ≤ second.layout.items) }
     requires new { (first.seen ≡ []) × (second.seen ≡ []) }
@@ -112,13 +60,13 @@ fn queue_both<R: Threads + Wait + Sync>(
         move ||
             requires { (each * 2 ≤ first.layout.items) × (first.seen ≡ []) }
             ensures { IsSame first result.sender × (accepted (own first.number result.sender.seen) ≡ result.queued.items) }
-        { queue_own(rt, first, 0, each, unparker) },
+        { queue_own(rt, first, 0, each, waker) },
         move ||
             requires { (each * 2 ≤ second.layout.items) × (second.seen ≡ []) }
             ensures { IsSame second result.sender × (accepted (own second.number result.sender.seen) ≡ result.queued.items) }
-        { queue_own(rt, second, each, each * 2, unparker) },
+        { queue_own(rt, second, each, each * 2, waker) },
     );
-    (first, stop(second, unparker))
+    (first, stop(second, waker))
 }
 
 /// Serves until the stop item ran.
@@ -182,7 +130,7 @@ fn serve_beside<R: Threads + Wait + Sync>(
     second: Sender,
     each: u32,
     parker: Parker,
-    unparker: &Unparker,
+    waker: &Waker,
 ) -> (Worker<Runs>, (Told, Told))
     requires items { each * 2 ≤ worker.layout.items }
     requires open { ¬ IsShut worker.seen }
@@ -202,7 +150,7 @@ fn serve_beside<R: Threads + Wait + Sync>(
             requires { (each * 2 ≤ first.layout.items) × (each * 2 ≤ second.layout.items) × (first.seen ≡ []) × (second.seen ≡ []) }
             ensures { IsSame first result.0.sender × (accepted (own first.number result.0.sender.seen) ≡ result.0.queued.items)
                 × IsSame second result.1.sender × (accepted (own second.number result.1.sender.seen) ≡ result.1.queued.items) }
-        { queue_both(rt, first, second, each, unparker) },
+        { queue_both(rt, first, second, each, waker) },
     )
 }
 
@@ -234,6 +182,10 @@ pub fn run_served<R: Threads + Wait + Sync>(
     let Ok(unparker) = parker.unparker().clone() else {
         return Err(Unserved::Memory);
     };
+    let waker = Waker {
+        unparker,
+        on: WakesOn::EmptyList,
+    };
     let work = Runs { ran: Trail::new() };
     let Ok((worker, mut senders)) = Worker::build(alloc, layout, work, 1) else {
         return Err(Unserved::Memory);
@@ -244,8 +196,6 @@ pub fn run_served<R: Threads + Wait + Sync>(
     let Some(first) = senders.pop() else {
         unreachable!()
     };
-    let (worker, (first, second)) = serve_beside(
-        rt, worker, first, second, each, parker, &unparker,
-    );
+    let (worker, (first, second)) = serve_beside(rt, worker, first, second, each, parker, &waker);
     finish(worker, first, second)
 }
