@@ -16,9 +16,9 @@ use Rattle.wq_words.specs.declared.event.Event.{Event}
 use Rattle.wq_turn.specs.Steps.{EndsJust}
 
 module _ {K W : Type 0} (state : K → WorkerState W) (deals : K → K → Type 0) where
-  pub first_more : (slots : SlotsState K) (turns new : List (TurnState K)) (t : TurnState K) → AreFirst state deals slots turns → length turns < length slots.workers
-      → t.slots ≡ slots.id → IsWorkerAt state slots.workers (length turns) t.worker → GoesOnAt state deals slots.states (length turns) t.worker
-      → new ≡ turns ++ t ∷ [] → AreFirst state deals slots new
+  pub first_more : (slots : SlotsState K) (turns new : List (TurnState K)) (t : TurnState K) → AreFirst state deals slots turns
+      → length turns < length slots.workers → t.slots ≡ slots.id → IsWorkerAt state slots.workers (length turns) t.worker
+      → GoesOnAt state deals slots.states (length turns) t.worker → new ≡ turns ++ t ∷ [] → AreFirst state deals slots new
   first_more slots turns new t first low here worker_is on is =
       let n = length turns in
       let long : length (turns ++ t ∷ []) ≡ n + 1 = length-append turns (t ∷ []) in
@@ -94,8 +94,8 @@ module _ {K W : Type 0} (state : K → WorkerState W) (may : W → ℕ → List 
       )
 
   -- what was taken apart is of the workers that were drained
-  pub parts_drained : {B : Type 0} (book : B → BookState) (has_brought : K → B → Type 0) (workers : List WorkerId) (states : List K) (turns : List (TurnState K))
-      (parts : List (W × B)) → AllDrained workers states turns → AreTakenApart state book has_brought turns parts
+  pub parts_drained : {B : Type 0} (book : B → BookState) (has_brought : K → B → Type 0) (workers : List WorkerId) (states : List K)
+      (turns : List (TurnState K)) (parts : List (W × B)) → AllDrained workers states turns → AreTakenApart state book has_brought turns parts
       → ComeFromDrains state may gives deals limit book has_brought workers states parts
   parts_drained book has_brought workers states turns parts all apart q one at =
       let t = apart q one at in (t.0.worker, all q t.0 t.1, t.2)
@@ -122,7 +122,8 @@ module _ {K W B : Type 0} (state : K → WorkerState W) (book : B → BookState)
       absurd (none-some one (sym (ap (λ (ps : List (W × B)). slice_get ps q) is) ∙ at))
 
   pub parts_next : (turns : List (TurnState K)) (t : TurnState K) (parts new : List (W × B)) (one : W × B) → AreTakenApart state book has_brought turns parts
-      → length parts ≡ length turns → ArePartsOf state book has_brought t.worker one → new ≡ parts ++ one ∷ [] → AreTakenApart state book has_brought (turns ++ t ∷ []) new
+      → length parts ≡ length turns → ArePartsOf state book has_brought t.worker one → new ≡ parts ++ one ∷ []
+      → AreTakenApart state book has_brought (turns ++ t ∷ []) new
   parts_next turns t parts new one all same is new_is q other at =
       elim (slice_get_push parts one other q (sym (ap (λ (ps : List (W × B)). slice_get ps q) new_is) ∙ at)) [
         | inl old ↦ let u = all q other old in (u.0, slice_get_append turns (t ∷ []) q u.0 u.1, u.2)

@@ -118,7 +118,8 @@ module _ {K W : Type 0} (state : K → WorkerState W) (deals : K → K → Type 
   pub picks_allowed : (handed : HandedIn K) (slots seat q : ℕ) (me : SlotSat K) → q < length handed.workers → me ≡ (empty_hand handed, [])
       → Allows (KeptSlots state deals handed) slots seat me q (λ n. either (eqb n 0) 1 n) (picks_up state deals (step slots q 0 1 none) me)
   picks_allowed handed slots seat q me within is =
-      subst (λ (m : SlotSat K). Allows (KeptSlots state deals handed) slots seat m q (λ n. either (eqb n 0) 1 n) (picks_up state deals (step slots q 0 1 none) m))
+      subst (λ (m : SlotSat K).
+      Allows (KeptSlots state deals handed) slots seat m q (λ n. either (eqb n 0) 1 n) (picks_up state deals (step slots q 0 1 none) m))
       (sym is)
       (picks_empty handed slots seat q within)
 
@@ -160,7 +161,8 @@ module _ {K W : Type 0} (state : K → WorkerState W) (deals : K → K → Type 
   at_start : (ws : List K) (q : ℕ) → q < length (map (id_of state) ws)
       → (w : K) × (get_elem? (map some (map Some ws)) q ≡ some (some (Some w))) × IsHandedAt state deals (handed_of state ws) q w
   at_start [] q low = absurd (omega arith)
-  at_start (w ∷ ws) zero low = (w, refl, record { worker_is = refl; goes_on = record { old = w; old_is = refl; begins = prefix_self (seen_by state w); along = here w } })
+  at_start (w ∷ ws) zero low =
+      (w, refl, record { worker_is = refl; goes_on = record { old = w; old_is = refl; begins = prefix_self (seen_by state w); along = here w } })
   at_start (w ∷ ws) (suc q) low =
       let t = at_start ws q (omega arith) in let on = t.2.goes_on in
       (t.0, t.1, record { worker_is = t.2.worker_is; goes_on = record { old = on.old; old_is = on.old_is; begins = on.begins; along = on.along } })

@@ -139,7 +139,8 @@ impl<K: Station + Drop> PoolOf<K> {
         ensures finished { IfOk result (λ finished. AreFinishedBy K.book K.has_run self.workers finished.items) }
         ensures count { IfOk result (λ finished. length finished.items ≡ length self.workers) }
         ensures each { IfOk result (λ finished. All (RanToEndBy K.book K.has_run) finished.items) }
-        ensures drained { IfOk result (λ finished. ComeFromDrains K.state K.may K.gives K.deals limit K.book K.has_brought self.workers self.states finished.items) }
+        ensures drained { IfOk result (λ finished. ComeFromDrains K.state K.may K.gives K.deals limit K.book K.has_brought
+            self.workers self.states finished.items) }
         ensures begins { IfOk result (λ finished. BeginAsHandedIn K.state K.deals K.book K.has_brought self.states finished.items) }
         ensures fault { IfErr result (IsPoolFault K.state K.may K.gives K.deals limit self) }
     {

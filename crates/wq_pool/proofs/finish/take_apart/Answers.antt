@@ -28,8 +28,8 @@ loop-worked-preserved g c =
           i.2 c.into_parts.ensures.finished c.push_reserved.ensures.items,
       omega (arith, c.push_reserved.ensures.len, i.3, length-append l.yielded (c.in-Some.worked ∷ [])),
       omega (arith, c.push_reserved.ensures.capacity, i.4),
-      parts_next k.state k.book k.has_brought l.yielded c.in-Some.worked l.finished.items c.push_reserved.new.self.items c.into_parts.result i.5 (omega (arith, i.3))
-          c.into_parts.ensures.parts c.push_reserved.ensures.items,
+      parts_next k.state k.book k.has_brought l.yielded c.in-Some.worked l.finished.items c.push_reserved.new.self.items c.into_parts.result i.5
+          (omega (arith, i.3)) c.into_parts.ensures.parts c.push_reserved.ensures.items,
     )
 
 pub returns-clause-finished : goal.returns-clause-finished

@@ -58,7 +58,8 @@ returns-in-None-None-clause-drained g c =
     let k = g.K.Station in let all = c.gather-all.result.all.items in let slots = c.self.inside.slots in
     let parts = c.take_apart.result.items in
     subst (λ (p : PoolState _). ComeFromDrains k.state k.may k.gives k.deals c.args.limit k.book k.has_brought p.workers p.states parts) c.self.view_is
-    (parts_drained k.state k.may k.gives k.deals c.args.limit k.book k.has_brought slots.workers slots.states all parts c.gather-all.ensures.drained c.take_apart.ensures.parts)
+    (parts_drained k.state k.may k.gives k.deals c.args.limit k.book k.has_brought slots.workers slots.states all parts
+    c.gather-all.ensures.drained c.take_apart.ensures.parts)
 
 pub returns-in-None-None-clause-begins : goal.returns-in-None-None-clause-begins
 returns-in-None-None-clause-begins g c =

@@ -14,7 +14,8 @@ loop-preserved-then-not-owes g c =
       c.announce_again-is_announced.ensures.caller,
       goes_on a b d c.loop.invariant.1 c.announce_again-is_announced.ensures.goes_on,
       subst (λ (t : TurnState _). IsTurnOf g.K.Station.state g.K.Station.deals c.args.self.now t) (sym c.count_stop.ensures)
-          (turn_same g.K.Station.state g.K.Station.deals c.args.self.now c.loop.turn c.in-Err.same c.loop.invariant.2 c.in-Err.ensures.same c.in-Err.ensures.deals),
+          (turn_same g.K.Station.state g.K.Station.deals c.args.self.now c.loop.turn c.in-Err.same c.loop.invariant.2 c.in-Err.ensures.same
+          c.in-Err.ensures.deals),
       c.announce_again-is_announced.ensures.next,
     )
 

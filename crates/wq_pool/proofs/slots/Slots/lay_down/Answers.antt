@@ -10,5 +10,6 @@ swap-requires g c =
     ap (λ (t : TurnState _). t.slots) w.view_is ∙ (c.requires ∙ sym (ap (λ (s : SlotsState _). s.id) c.self.view_is)) in (
       search rules,
       subst (λ (t : TableId). w.inside.queue < t.words) same w.invariant.within,
-      lays_filled g.K.Station.state g.K.Station.deals _ _ _ _ w.inside.seat.me c.exchange.new.seat.me _ w.invariant.taken w.invariant.worker_is c.exchange.ensures.3,
+      lays_filled g.K.Station.state g.K.Station.deals _ _ _ _ w.inside.seat.me c.exchange.new.seat.me _ w.invariant.taken w.invariant.worker_is
+          c.exchange.ensures.3,
     )
