@@ -29,6 +29,6 @@ pub use Rattle.wq_delay.specs.declared.timetable.DueItem.{DueItem}
 pub use Rattle.wq_delay.specs.Rows.{IsFirstDue, place_in, head_by, number_by, later_than, turn_of, IsWheel, AreOnTable, AreFound, entry_at, entry_of, times}
 pub use Rattle.wq_delay.specs.Rows.{place_at, SaysPlace, entries_of, stands, is_due, AreDue, IsTimetable, AreApart, waiting, is_place, IsGathering}
 pub use Rattle.wq_delay.proofs.Placing.{place_of, AreRows}
-pub use Rattle.wq_delay.specs.Rows.{StillWaits, IsClean, Rows, remaining, RowHasRoom, PutsBehind, row_cmp, AreSorted}
+pub use Rattle.wq_delay.specs.Rows.{StillWaits, IsClean, Rows, remaining, RowHasRoom, PutsBehind, row_cmp, AreSorted, AreEarliest, WaitFrom}
 pub use Rattle.wq_delay.specs.Delay.{DelayState, IsFit, KeepsTable, TakesOff, IsOut, is_back, MayStay, PostsDue, GivesAllBack, FitsTable}
 pub use Rattle.wq_delay.specs.Rings.{AreRings}

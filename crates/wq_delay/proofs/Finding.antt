@@ -10,7 +10,7 @@ use Rattle.wq_delay.proofs.Looking.{or_false, on_push, steps_left, steps_fewer}
 use Rattle.wq_delay.proofs.Fitting.{place_low, more_on_table}
 
 -- the slot of a later tick is the n-th after that of the tick t where its turn is n
-turn_slot : (t n due : ℕ) → t < due → turn_of t due ≡ n → due % 256 ≡ (t + 1 + n) % 256
+pub turn_slot : (t n due : ℕ) → t < due → turn_of t due ≡ n → due % 256 ≡ (t + 1 + n) % 256
 turn_slot t n due late is =
     let m : ℕ = due - (t + 1) in let whole = mod-add-div' m 256 in
     let due_is : due ≡ t + 1 + n + (m / 256) * 256 = omega arith in

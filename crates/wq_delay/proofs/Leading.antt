@@ -78,6 +78,21 @@ waits_later : (t : ℕ) (o : Option Place) → cond (is_due t o) None o ≡ late
 waits_later t None = refl
 waits_later t (Some p) = refl
 
+-- what stands in a row of what is due at the tick now
+pub row_due : (places : List (Option Place)) (now k : ℕ) (fs : List Entry) → All (SaysPlace places) fs → All (λ e. e.due ≤ now) fs
+    → on_table k fs ≡ true → is_due now (place_in places k) ≡ true
+row_due places now k [] valid due on = absurd (cc)
+row_due places now k (f ∷ fs) valid due on = by (k == f.item) refl on (λ rest. row_due places now k fs
+    (All-tail (SaysPlace places) f fs valid) (All-tail (λ e. e.due ≤ now) f fs due) rest)
+  where
+    by : (b : Bool) → (k == f.item) ≡ b → (b || on_table k fs) ≡ true → (on_table k fs ≡ true → is_due now (place_in places k) ≡ true)
+        → is_due now (place_in places k) ≡ true
+    by true is _ rest =
+        let low : f.due ≤ now = All-head (λ e. e.due ≤ now) f fs due in
+        let at = All-head (SaysPlace places) f fs valid in
+        ap (λ (z : ℕ). is_due now (place_in places z)) (eqb-true k f.item is) ∙ (ap (is_due now) at ∙ (grind (arith, nat_tests)))
+    by false is on rest = rest on
+
 module _ {places : List (Option Place)} {next previous : List ℕ} {row : List DueItem} {room front count tick : ℕ}
     (t : IsTimetable places next previous row room front count tick) (now : ℕ) (forward : tick ≤ now)
     {given : List (Option Place)} (value : given ≡ places) (kept : List DueItem) (same : filter (stands given) kept ≡ filter (stands given) row) where
@@ -158,20 +173,6 @@ module _ {places : List (Option Place)} {next previous : List ℕ} {row : List D
     done = subst (λ (z : List Entry). (k : ℕ) (p : Place) → waiting places z k ≡ Some p → now < p.due) found_is
         (subst (λ (z : List (Option Place)). (k : ℕ) (p : Place) → waiting z (remaining z found) k ≡ Some p → now < p.due) value none_due)
 
-    row_due : (k : ℕ) (fs : List Entry) → All (SaysPlace places) fs → All (λ e. e.due ≤ now) fs
-        → on_table k fs ≡ true → is_due now (place_in places k) ≡ true
-    row_due k [] valid due on = absurd (cc)
-    row_due k (f ∷ fs) valid due on = by (k == f.item) refl on (λ rest. row_due k fs
-        (All-tail (SaysPlace places) f fs valid) (All-tail (λ e. e.due ≤ now) f fs due) rest)
-      where
-        by : (b : Bool) → (k == f.item) ≡ b → (b || on_table k fs) ≡ true → (on_table k fs ≡ true → is_due now (place_in places k) ≡ true)
-            → is_due now (place_in places k) ≡ true
-        by true is _ rest =
-            let low : f.due ≤ now = All-head (λ e. e.due ≤ now) f fs due in
-            let at = All-head (SaysPlace places) f fs valid in
-            ap (λ (z : ℕ). is_due now (place_in places z)) (eqb-true k f.item is) ∙ (ap (is_due now) at ∙ (grind (arith, nat_tests)))
-        by false is on rest = rest on
-
     late_item : (o : Option Place) → ((p : Place) → o ≡ Some p → now < p.due) → is_due now o ≡ false
     late_item None late = refl
     late_item (Some p) late = let l = late p refl in grind (arith, nat_tests)
@@ -180,7 +181,7 @@ module _ {places : List (Option Place)} {next previous : List ℕ} {row : List D
     found_on k = by (on_table k (map entry_of (filter (stands places) kept ++ more))) refl
       where
         by : (b : Bool) → on_table k (map entry_of (filter (stands places) kept ++ more)) ≡ b → b ≡ is_due now (place_in places k)
-        by true on = sym (row_due k (map entry_of (filter (stands places) kept ++ more)) g.valid g.due on)
+        by true on = sym (row_due places now k (map entry_of (filter (stands places) kept ++ more)) g.valid g.due on)
         by false off = sym (late_item (place_in places k) (λ p is. done k p (ap (λ (z : Bool). cond z None (place_in places k)) off ∙ is)))
 
     all_moves : IsPermutation (filter (stands places) kept ++ more) (filter (stands places) kept ++ moved)

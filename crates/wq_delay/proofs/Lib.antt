@@ -16,6 +16,7 @@ pub mod Led
 pub mod Tidied
 pub mod Finding
 pub mod Found
+pub mod Earliest
 pub mod Starting
 pub mod Held
 pub mod Sound

@@ -12,14 +12,14 @@ nothing_at (suc n) zero = refl
 nothing_at (suc n) (suc k) = nothing_at n k
 
 module _ (places : List (Option Place)) (n : ℕ) (places_are : places ≡ replicate n None) (size : length places ≡ n) where
-  none : (k : ℕ) → place_in places k ≡ None
-  none k = ap (λ (z : List (Option Place)). place_in z k) places_are ∙ nothing_at n k
+  pub nothing_in : (k : ℕ) → place_in places k ≡ None
+  nothing_in k = ap (λ (z : List (Option Place)). place_in z k) places_are ∙ nothing_at n k
 
   apart : AreApart places
-  apart j k p q a b same = let e = none j in absurd (cc)
+  apart j k p q a b same = let e = nothing_in j in absurd (cc)
 
   rows : AreRows places []
-  rows = record { ordered = tt; known = none }
+  rows = record { ordered = tt; known = nothing_in }
 
   pub no_entries : entries_of places ≡ []
   no_entries = entries_is places [] apart rows
@@ -32,11 +32,11 @@ module _ (places : List (Option Place)) (n : ℕ) (places_are : places ≡ repli
     wheel = record {
       next_length = let e = ap (length {A = ℕ}) next_is in let f = length-range_with_len 0 m in omega arith;
       previous_length = let e = ap (length {A = ℕ}) previous_is in let f = length-range_with_len 0 m in omega arith;
-      heads = λ k high. ap (later_than tick) (none k);
+      heads = λ k high. ap (later_than tick) (nothing_in k);
       rings = rings_alone _ _ _ _ (length places + 256)
           (λ x low. ap (λ (z : List ℕ). get_or z x 0) next_is ∙ (get_or-range_with_len 0 m x 0 (omega arith) ∙ (omega arith)))
           (λ x low. ap (λ (z : List ℕ). get_or z x 0) previous_is ∙ (get_or-range_with_len 0 m x 0 (omega arith) ∙ (omega arith)))
-          (λ x. ap (λ (z : Option Place). head_by (length places) x (later_than tick z)) (none x));
+          (λ x. ap (λ (z : Option Place). head_by (length places) x (later_than tick z)) (nothing_in x));
     };
     due_is = sym (ap (due_part tick) no_entries);
     early = All-nil (λ e. e.place.due ≤ tick);

@@ -167,6 +167,15 @@ StillWaits places old new = (k : ℕ) (p : Place) → waiting places new k ≡ S
 abbrev pub IsClean : List (Option Place) → List Entry → ℕ → ℕ → Type 0
 IsClean places row head now = (k : ℕ) (p : Place) → waiting places row k ≡ Some p → length places + p.due % 256 ≡ head → now < p.due
 
+-- what waits in the slot with this head is due at the tick t or later
+abbrev pub WaitFrom : List (Option Place) → List Entry → ℕ → ℕ → Type 0
+WaitFrom places row head t = (k : ℕ) (p : Place) → waiting places row k ≡ Some p → length places + p.due % 256 ≡ head → t ≤ p.due
+
+-- nothing that waits is due before the tick that stands at its slot
+pub record AreEarliest (earliest : List ℕ) (waits : ℕ → Option Place) : Type 0 where
+  pub slots : length earliest ≡ 256
+  pub early : (k : ℕ) (p : Place) → waits k ≡ Some p → slice_index earliest (p.due % 256) ≤ p.due
+
 -- between two calls: what is due stands in the row, in order, and the rest waits
 pub record IsTimetable (places : List (Option Place)) (next previous : List ℕ) (row : List DueItem) (room front count tick : ℕ) : Type 0 where
   pub few : length places ≤ most_items

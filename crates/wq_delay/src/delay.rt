@@ -120,7 +120,7 @@ impl Delay {
     }
 
     /// How many slots of the wheel the last answered advance looked at, by its own count: one for each tick, or each slot once where
-    /// that is fewer.
+    /// that is fewer. Of a slot where nothing can be due it looks at the earliest tick that stands for it, and at no item.
     pub fn looked(&self) -> u32
         ensures count { result ≡ self.now.looked }
     {

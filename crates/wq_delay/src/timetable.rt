@@ -1,12 +1,12 @@
 //! Items by the ticks at which they are due: a wheel of slots, and a row of what is due.
 ghost use Rattle.std.specs.Prelude.{◌≡◌, ℕ, ◌<◌, ◌≤◌, ◌-◌, true, false, [], length, min, IfOk, IfSome, MatchOption};
 ghost use Rattle.wq_words.specs.Limits.{most_items};
-ghost use Rattle.wq_words.specs.DelayTable.{items, on_table, due_part, placed, without, AreArmedBefore};
-ghost use Rattle.std.specs.Prelude.{map, filter, take, drop, nat_le, ◌&&◌, ◌+◌, ◌*◌, OnOk, slice_index_or};
+ghost use Rattle.wq_words.specs.DelayTable.{Entry, items, on_table, due_part, placed, without, AreArmedBefore};
+ghost use Rattle.std.specs.Prelude.{map, filter, take, drop, nat_le, ◌&&◌, ◌+◌, ◌*◌, ◌%◌, OnOk, List, set, slice_index, slice_index_or};
 ghost use Rattle.std.specs.Vec.{vec_capacity};
 ghost use Rattle.std.specs.List.{All};
 ghost use Rattle.wq_delay.specs.Rows.{IsFirstDue, IsWheel, IsGathering, StillWaits, IsClean, place_in, later_than, waiting, entry_of, stands, AreFound, AreDue};
-ghost use Rattle.wq_delay.specs.Rows.{remaining, RowHasRoom, PutsBehind, AreSorted};
+ghost use Rattle.wq_delay.specs.Rows.{remaining, RowHasRoom, PutsBehind, AreSorted, AreEarliest, WaitFrom};
 ghost use Rattle.std.specs.List.Sorted.{IsPermutation};
 
 use crate::rings::Rings;
@@ -35,10 +35,13 @@ struct DueItem {
 // the order of armings; the head of a slot's ring is the place behind all items, and of the slots before it. What is due stands
 // in the row, in order, from the place `front` on, among items that have left it. It stays there until it goes out: what an
 // advance finds is due later than all that stands there, and is put behind it, so no advance takes longer for what is left.
+// In `earliest` stands for each slot a tick before which nothing that waits in it is due. An arming lowers it to its own tick. An
+// advance goes round a slot's ring only where that tick has come, and then sets it to the earliest of what still waits there.
 #[derive(Drop)]
 pub(crate) struct Timetable {
     places: Vec<Option<Place>>,
     rings: Rings,
+    earliest: Vec<u64>,
     row: Vec<DueItem>,
     front: usize,
     count: usize,
@@ -83,10 +86,12 @@ fn out_by(
         .collect(alloc)
 }
 
-// Adds to a list what is due at the tick `now` of the slot that is so many slots behind the one after `tick`, in its order.
+// Adds to a list what is due at the tick `now` of the slot that is so many slots behind the one after `tick`, in its order. The
+// slot's ring is passed over where nothing of it is due by then.
 fn find(
     places: &[Option<Place>],
     rings: &Rings,
+    earliest: &[u64],
     found: &mut Vec<DueItem>,
     tick: u64,
     after: u64,
@@ -94,11 +99,15 @@ fn find(
 ) -> Result<(), AllocError>
     requires few { length places.now ≤ most_items }
     requires wheel { IsWheel (length places.now) rings.now.next.items rings.now.previous.items (λ k. later_than tick (place_in places.now k)) }
+    requires earliest { AreEarliest earliest.now (λ k. later_than tick (place_in places.now k)) }
     requires after { (after < 256) × (tick + after < now) }
     requires found { AreFound places.now tick now after (map entry_of found.old.items) }
     ensures { OnOk result (AreFound places.now tick now (after + 1) (map entry_of found.new.items)) }
 {
     let slot = (tick + 1 + after) % SLOTS as u64;
+    if earliest[slot as usize] > now {
+        return Ok(());
+    }
     let head = places.len() as u32 + slot as u32;
     let mut item = rings.next[head as usize];
     while item != head {
@@ -116,18 +125,20 @@ fn find(
 fn find_on(
     places: &[Option<Place>],
     rings: &Rings,
+    earliest: &[u64],
     found: &mut Vec<DueItem>,
     tick: u64,
     now: u64,
 ) -> Result<(), AllocError>
     requires few { length places.now ≤ most_items }
     requires wheel { IsWheel (length places.now) rings.now.next.items rings.now.previous.items (λ k. later_than tick (place_in places.now k)) }
+    requires earliest { AreEarliest earliest.now (λ k. later_than tick (place_in places.now k)) }
     requires found { AreFound places.now tick now 0 (map entry_of found.old.items) }
     ensures { OnOk result (AreDue places.now now (map entry_of found.new.items)) }
 {
     let ticks = cmp::min(now.saturating_sub(tick), SLOTS as u64);
     for after in 0..ticks {
-        find(places, rings, found, tick, after, now)?;
+        find(places, rings, earliest, found, tick, after, now)?;
     }
     Ok(())
 }
@@ -163,6 +174,54 @@ fn look(places: &[Option<Place>], rings: &mut Rings, row: &mut Vec<DueItem>, hea
     }
 }
 
+// The earliest tick at which something is due that waits in the slot with this head, or the last tick where nothing waits.
+fn earliest_in(places: &[Option<Place>], rings: &Rings, head: u32) -> u64
+    requires head { (length places.now ≤ head) × (head < length places.now + 256) }
+    requires wheel { (es : List Entry) × IsWheel (length places.now) rings.now.next.items rings.now.previous.items (waiting places.now es) }
+    ensures { (es : List Entry) → IsWheel (length places.now) rings.now.next.items rings.now.previous.items (waiting places.now es)
+        → WaitFrom places.now es head result }
+{
+    let mut earliest = u64::MAX;
+    let mut item = rings.next[head as usize];
+    while item != head {
+        if let Some(place) = places[item as usize] {
+            earliest = cmp::min(earliest, place.due);
+        }
+        item = rings.next[item as usize];
+    }
+    earliest
+}
+
+// Looks at a slot: goes round its ring where something may be due at the tick `now`, and then notes the earliest of what is left.
+fn look_at(
+    places: &[Option<Place>],
+    rings: &mut Rings,
+    row: &mut Vec<DueItem>,
+    earliest: &mut Vec<u64>,
+    slot: u32,
+    now: u64,
+)
+    requires few { length places.now ≤ most_items }
+    requires slot { slot < 256 }
+    requires gathering { IsGathering places.now rings.old.next.items rings.old.previous.items (remaining places.now row.old.items) now }
+    requires room { RowHasRoom places.now row.old.items (vec_capacity row.old) }
+    requires earliest { AreEarliest earliest.old.items (waiting places.now (remaining places.now row.old.items)) }
+    ensures gathering { IsGathering places.now rings.new.next.items rings.new.previous.items (remaining places.now row.new.items) now }
+    ensures room { RowHasRoom places.now row.new.items (vec_capacity row.new) }
+    ensures grows { PutsBehind places.now row.old.items row.new.items }
+    ensures fewer { StillWaits places.now (remaining places.now row.old.items) (remaining places.now row.new.items) }
+    ensures clean { IsClean places.now (remaining places.now row.new.items) (length places.now + slot) now }
+    ensures earliest { AreEarliest earliest.new.items (waiting places.now (remaining places.now row.new.items)) }
+{
+    if earliest[slot as usize] > now {
+        return;
+    }
+    let head = places.len() as u32 + slot;
+    look(places, rings, row, head, now);
+    let left = earliest_in(places, rings, head);
+    earliest[slot as usize] = left;
+}
+
 // Takes out of a row what has left the table, once all before `front` and nothing behind it has, or that is most of the row. The
 // place from which on something may stand there.
 fn tidy(places: &[Option<Place>], row: &mut Vec<DueItem>, front: usize) -> usize
@@ -194,11 +253,12 @@ fn sort_behind(row: &mut Vec<DueItem>, late: usize)
 }
 
 // Looks at the slots of the ticks after `tick` up to `now` in turn, or at each slot once where there are more ticks than slots.
-// How many slots it looked at.
+// How many slots it looked at, at each of them at least at its earliest tick.
 fn look_on(
     places: &[Option<Place>],
     rings: &mut Rings,
     row: &mut Vec<DueItem>,
+    earliest: &mut Vec<u64>,
     tick: u64,
     now: u64,
 ) -> u32
@@ -207,33 +267,51 @@ fn look_on(
     requires room { RowHasRoom places.now row.old.items (vec_capacity row.old) }
     requires ahead { (k : ℕ) (p : _) → waiting places.now (remaining places.now row.old.items) k ≡ Some p → tick < p.due }
     requires forward { tick ≤ now }
+    requires earliest { AreEarliest earliest.old.items (waiting places.now (remaining places.now row.old.items)) }
     ensures gathering { IsGathering places.now rings.new.next.items rings.new.previous.items (remaining places.now row.new.items) now }
     ensures room { RowHasRoom places.now row.new.items (vec_capacity row.new) }
     ensures grows { PutsBehind places.now row.old.items row.new.items }
     ensures done { (k : ℕ) (p : _) → waiting places.now (remaining places.now row.new.items) k ≡ Some p → now < p.due }
+    ensures earliest { AreEarliest earliest.new.items (waiting places.now (remaining places.now row.new.items)) }
     ensures looked { result ≡ min (now - tick) 256 }
 {
-    let size = places.len() as u32;
     let ticks = cmp::min(now - tick, SLOTS as u64);
     let mut looked = 0;
     for after in 0..ticks {
         let slot = (tick + 1 + after) % SLOTS as u64;
-        look(places, rings, row, size + slot as u32, now);
+        look_at(places, rings, row, earliest, slot as u32, now);
         looked += 1;
     }
     looked
 }
 
+// The tick that stands for a slot in which nothing waits, for each.
+fn idle_slots(alloc: Global) -> Result<Vec<u64>, AllocError>
+    ensures { IfOk result (λ ticks. length ticks.items ≡ 256) }
+{
+    vec![in alloc; u64::MAX; SLOTS as usize]
+}
+
+// Notes that an item that is due at this tick waits in its slot.
+fn note(earliest: &mut Vec<u64>, due: u64)
+    requires { length earliest.old.items ≡ 256 }
+    ensures { earliest.new.items ≡ set earliest.old.items (due % 256) (min (slice_index earliest.old.items (due % 256)) due) }
+{
+    let slot = (due % SLOTS as u64) as usize;
+    earliest[slot] = cmp::min(earliest[slot], due);
+}
+
 impl Model for Timetable {
     ghost use Rattle.std.specs.Prelude.{length};
     ghost use Rattle.std.specs.Vec.{vec_capacity};
-    ghost use Rattle.wq_delay.specs.Rows.{Rows, entries_of, IsTimetable};
+    ghost use Rattle.wq_delay.specs.Rows.{Rows, entries_of, place_in, later_than, IsTimetable, AreEarliest};
 
     ghost Value = { Rows };
 
     ghost view = { λ t. record { size = length t.places.items; entries = entries_of t.places.items; tick = t.tick } };
 
-    ghost invariant = { λ t. IsTimetable t.places.items t.rings.next.items t.rings.previous.items t.row.items (vec_capacity t.row) t.front t.count t.tick };
+    ghost invariant = { λ t. IsTimetable t.places.items t.rings.next.items t.rings.previous.items t.row.items (vec_capacity t.row) t.front t.count t.tick
+        × AreEarliest t.earliest.items (λ k. later_than t.tick (place_in t.places.items k)) };
 }
 
 impl Timetable {
@@ -244,6 +322,7 @@ impl Timetable {
         Ok(Timetable {
             places: vec![in alloc; None; size as usize]?,
             rings: Rings::new(alloc, size + SLOTS)?,
+            earliest: idle_slots(alloc)?,
             row: Vec::with_capacity(alloc, 3 * size as usize)?,
             front: 0,
             count: 0,
@@ -296,6 +375,7 @@ impl Timetable {
         let head = self.places.len() as u32 + slot;
         self.places[item as usize] = Some(Place { due, arming });
         self.rings.put_behind(item, head);
+        note(&mut self.earliest, due);
         self.count += 1;
     }
 
@@ -331,7 +411,7 @@ impl Timetable {
         true
     }
 
-    // Leads the table on to a tick. How many slots it looked at.
+    // Leads the table on to a tick. How many slots it looked at, at each of them at least at its earliest tick.
     pub(crate) fn lead_on(&mut self, now: u64) -> u32
         requires { self.old.tick ≤ now }
         ensures size { self.new.size ≡ self.old.size }
@@ -342,7 +422,14 @@ impl Timetable {
         let places = self.places.as_slice();
         self.front = tidy(places, &mut self.row, self.front);
         let late = self.row.len();
-        let looked = look_on(places, &mut self.rings, &mut self.row, self.tick, now);
+        let looked = look_on(
+            places,
+            &mut self.rings,
+            &mut self.row,
+            &mut self.earliest,
+            self.tick,
+            now,
+        );
         sort_behind(&mut self.row, late);
         self.tick = now;
         looked
@@ -369,7 +456,14 @@ impl Timetable {
             return Ok(Vec::new(alloc));
         }
         let mut due = out_by(alloc, &self.places, &self.row, self.front, now)?;
-        find_on(&self.places, &self.rings, &mut due, self.tick, now)?;
+        find_on(
+            &self.places,
+            &self.rings,
+            &self.earliest,
+            &mut due,
+            self.tick,
+            now,
+        )?;
         due.sort_unstable();
         items_of(alloc, &due)
     }

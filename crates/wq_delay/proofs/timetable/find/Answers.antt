@@ -1,7 +1,13 @@
 use Rattle.wq_delay.proofs.Common.{◌≡◌, ℕ, ◌+◌, ◌%◌, [], ◌∷◌, map, length, slice_index, sym, refl, ap, ◌∙◌, subst, arith, get_or_read, map-append, entry_of}
 use Rattle.wq_delay.proofs.Finding.{Finding, head_low, finding_init, finding_end, finding_pass, finding_take, item_there, less_read}
+use Rattle.wq_delay.proofs.Earliest.{found_passed}
 use Rattle.wq_delay.proofs.timetable.find.Goals.{in-Some+then-place-now+in_ok-push, in-Some+else-place-now, in_default}
 use Rattle.wq_delay.proofs.timetable.find.Goals as goal
+
+pub returns-then-earliest-slot : goal.returns-then-earliest-slot
+returns-then-earliest-slot c =
+    found_passed c.args.places.now c.args.earliest.now c.args.tick c.args.now c.args.after (map entry_of c.args.found.now.items) c.requires.after.0
+    c.requires.earliest c.if-earliest-slot.true c.requires.found
 
 pub loop-item-init : goal.loop-item-init
 loop-item-init c =

@@ -10,24 +10,29 @@ loop-after-init c = (
   c.requires.room,
   refl,
   grows_none c.args.places.now c.args.row.now.items,
+  c.requires.earliest,
 )
 
-pub look-requires-clause-gathering : goal.look-requires-clause-gathering
-look-requires-clause-gathering c = c.loop-after.invariant.0.gathering
+pub look_at-requires-clause-gathering : goal.look_at-requires-clause-gathering
+look_at-requires-clause-gathering c = c.loop-after.invariant.0.gathering
 
-pub look-requires-clause-room : goal.look-requires-clause-room
-look-requires-clause-room c = c.loop-after.invariant.1
+pub look_at-requires-clause-room : goal.look_at-requires-clause-room
+look_at-requires-clause-room c = c.loop-after.invariant.1
+
+pub look_at-requires-clause-earliest : goal.look_at-requires-clause-earliest
+look_at-requires-clause-earliest c = c.loop-after.invariant.4
 
 pub loop-after-preserved : goal.loop-after-preserved
 loop-after-preserved c =
     let l = c.loop-after in let next = l.rings.next.items in let previous = l.rings.previous.items in let row = remaining c.args.places.now l.row.items in (
-      looking_on_more c.args.places.now next previous c.look.new.rings.next.items c.look.new.rings.previous.items
-          (remaining c.args.places.now c.args.row.now.items) row (remaining c.args.places.now c.look.new.row.items)
-          c.args.tick c.args.now l.after _ l.invariant.0 (omega arith) c.look.ensures.gathering c.look.ensures.fewer
-          c.look.ensures.clean,
-      c.look.ensures.room,
+      looking_on_more c.args.places.now next previous c.look_at.new.rings.next.items c.look_at.new.rings.previous.items
+          (remaining c.args.places.now c.args.row.now.items) row (remaining c.args.places.now c.look_at.new.row.items)
+          c.args.tick c.args.now l.after _ l.invariant.0 (omega arith) c.look_at.ensures.gathering c.look_at.ensures.fewer
+          c.look_at.ensures.clean,
+      c.look_at.ensures.room,
       omega (arith, l.invariant.2),
-      grows_on c.args.places.now c.args.row.now.items l.row.items c.look.new.row.items l.invariant.3 c.look.ensures.grows,
+      grows_on c.args.places.now c.args.row.now.items l.row.items c.look_at.new.row.items l.invariant.3 c.look_at.ensures.grows,
+      c.look_at.ensures.earliest,
     )
 
 pub returns-clause-gathering : goal.returns-clause-gathering
@@ -51,3 +56,6 @@ returns-clause-looked c =
 
 pub returns-clause-grows : goal.returns-clause-grows
 returns-clause-grows c = c.loop-after.invariant.3
+
+pub returns-clause-earliest : goal.returns-clause-earliest
+returns-clause-earliest c = c.loop-after.invariant.4

@@ -10,7 +10,7 @@ returns-clause-first c =
     let pv : c.deref.result.now ≡ places = c.deref.ensures.value in let rv : c.deref-2.result.now ≡ row = c.deref-2.ensures.value in
     let low : n < length row = let e = ap (length {A = DueItem}) rv in omega (arith, e, f.ensures.low, c.if-self-len.false, c.len.ensures, i.row.ok.0) in
     let before = subst (λ (z : List (Option Place)). filter (stands z) (take i.front c.deref-2.result.now) ≡ []) (sym pv)
-    (subst (λ (z : List DueItem). filter (stands places) (take i.front z) ≡ []) (sym rv) c.self.invariant.passed) in
+    (subst (λ (z : List DueItem). filter (stands places) (take i.front z) ≡ []) (sym rv) c.self.invariant.0.passed) in
     let passed = subst (λ (z : List (Option Place)). filter (stands z) (take n row) ≡ []) pv
     (subst (λ (z : List DueItem). filter (stands c.deref.result.now) (take n z) ≡ []) rv (f.ensures.passed before)) in
     let e = c.index.result.now in
@@ -18,10 +18,10 @@ returns-clause-first c =
     (subst (λ (z : List DueItem). stands c.deref.result.now (get_or z n e) ≡ true) rv
     (f.ensures.there e (let q = ap (length {A = DueItem}) rv in omega (arith, low)))) in
     subst (λ (z : Rows). IsFirstDue z.tick e.item z.entries) c.self.view_is
-    (first_served c.self.invariant n e low passed c.index.ensures hit)
+    (first_served c.self.invariant.0 n e low passed c.index.ensures hit)
 
 pub returns-clause-low : goal.returns-clause-low
 returns-clause-low c =
     let i = c.self.inside in let e = c.index.result.now in
-    subst (λ (z : Rows). IsFirstDue z.tick e.item z.entries → e.item < z.size) c.self.view_is (first_low i.places.items i.tick e.item c.self.invariant.apart)
+    subst (λ (z : Rows). IsFirstDue z.tick e.item z.entries → e.item < z.size) c.self.view_is (first_low i.places.items i.tick e.item c.self.invariant.0.apart)
     (returns-clause-first c)

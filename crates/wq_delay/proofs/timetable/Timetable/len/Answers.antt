@@ -4,5 +4,5 @@ use Rattle.wq_delay.proofs.timetable.Timetable.len.Goals as goal
 
 pub returns-clause-few : goal.returns-clause-few
 returns-clause-few c =
-    let t = c.self.invariant in let few = few_entries c.self.inside.places.items t.apart in
+    let t = c.self.invariant.0 in let few = few_entries c.self.inside.places.items t.apart in
     omega (arith, few, t.few, t.count_is)
