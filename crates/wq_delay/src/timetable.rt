@@ -35,8 +35,8 @@ struct DueItem {
 // the order of armings; the head of a slot's ring is the place behind all items, and of the slots before it. What is due stands
 // in the row, in order, from the place `front` on, among items that have left it. It stays there until it goes out: what an
 // advance finds is due later than all that stands there, and is put behind it, so no advance takes longer for what is left.
-// In `earliest` stands for each slot a tick before which nothing that waits in it is due. An arming lowers it to its own tick. An
-// advance goes round a slot's ring only where that tick has come, and then sets it to the earliest of what still waits there.
+// In `earliest` stands for each slot a tick before which nothing that waits in it is due, the last tick where nothing waits. An
+// advance goes round a slot's ring only where that tick has come, and then notes the earliest tick of what still waits there.
 #[derive(Drop)]
 pub(crate) struct Timetable {
     places: Vec<Option<Place>>,
@@ -174,7 +174,7 @@ fn look(places: &[Option<Place>], rings: &mut Rings, row: &mut Vec<DueItem>, hea
     }
 }
 
-// The earliest tick at which something is due that waits in the slot with this head, or the last tick where nothing waits.
+// A tick before which nothing that waits in the slot with this head is due: the earliest of it, or the last where nothing waits.
 fn earliest_in(places: &[Option<Place>], rings: &Rings, head: u32) -> u64
     requires head { (length places.now ≤ head) × (head < length places.now + 256) }
     requires wheel { (es : List Entry) × IsWheel (length places.now) rings.now.next.items rings.now.previous.items (waiting places.now es) }
@@ -192,7 +192,7 @@ fn earliest_in(places: &[Option<Place>], rings: &Rings, head: u32) -> u64
     earliest
 }
 
-// Looks at a slot: goes round its ring where something may be due at the tick `now`, and then notes the earliest of what is left.
+// Looks at a slot, where something of it may be due at the tick `now`, and notes the earliest tick of what still waits there.
 fn look_at(
     places: &[Option<Place>],
     rings: &mut Rings,
