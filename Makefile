@@ -7,7 +7,7 @@ PROGRAM := crates/wqrun/out/wqrun
 EXAMPLES := examples
 LIBRARY := crates/wq_c/out
 
-.PHONY: run try test build library install bench examples recordings rows c-api definitions memory wrong-bodies
+.PHONY: run try test build library install bench examples recordings rows c-api definitions memory wrong-bodies controls
 
 run: build
 	$(PROGRAM) script $(EXAMPLES)/first.wq
@@ -72,6 +72,10 @@ memory:
 # The wrong bodies that the gate leaves out: after a gate on the same machine half an hour on two processors, else an hour.
 wrong-bodies:
 	checks/wrong_bodies.sh
+
+# The right answer in the place of each wrong body of the gate: what becomes of it is as in checks/goals. An hour on two processors.
+controls:
+	checks/wrong_bodies.sh --controls
 
 # Times a script of a megabyte, scripts of one command alone, executed items beside the same scheme in C, in one thread and in
 # several, items that bring values beside channels of Rust, and a pool beside others in C.

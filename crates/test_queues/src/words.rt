@@ -19,6 +19,7 @@ fn layouts(rt: HostRuntime) {
         (1, 16, 65, Some(LayoutError::Senders)),
         (1, 16, 0, Some(LayoutError::Senders)),
         (1, 1, 1, None),
+        (4_096, 16, 64, None),
         (65_536, 16, 64, None),
     ] {
         let layout = Layout::new(items, barriers, senders);
