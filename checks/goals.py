@@ -3,9 +3,9 @@
 
 LOG is what `rt ci` printed. A line of `goals` is a wrong body of the gate and the first goal at which it is refused: a clause of the
 function that it changes, what a call in it requires, or what every value of a type keeps. A body that comes to be refused at another
-goal first may have lost its attack, or its clause. Behind that stands, where it was tried, what becomes of its control, the right answer
-in its place: `proved`, or the first goal at which that is refused, too. With --controls LOG is what `rt must-fail` printed of controls;
-those with nothing behind the goal are shown. With --write the first goals are written anew: read then what changed.
+goal first may have lost its attack, or its clause. Behind that stands, where the body's control was tried, a goal at which the body is
+refused and the control is not, or `none`. With --controls LOG is what `rt must-fail` printed of controls: each is shown with the first
+goal at which it is refused, if it is, which must not be that one. With --write the first goals are written anew: read then what changed.
 """
 import re
 import sys
@@ -17,16 +17,28 @@ REFUSED = re.compile(r"must-fail (\S+)\.edit: refused, as it must be: note: src/
 PROVED = re.compile(r"must-fail (\S+)\.edit: NOT REFUSED")
 
 
-def compare(what, wanted, seen):
-    """Prints each body of which something else is seen than is wanted; whether there is none."""
+def compare_controls(rows, refused, proved):
+    """Shows what became of each control; whether none is refused at the goal that tells its body from it."""
     faults = 0
-    for body in sorted(wanted.keys() | seen.keys()):
-        goal, found = wanted.get(body), seen.get(body)
+    for body in sorted(refused.keys() | proved):
+        tells, found = rows.get(body, [])[1:2], refused.get(body)
+        is_wrong = bool(tells and found) and tells[0].startswith(found)
+        faults += is_wrong
+        print(f"{body}: {f'refused first at {found}' if found else 'proved'}{', which is to tell its body from it' if is_wrong else ''}")
+    print(f"goals: {len(refused) + len(proved)} controls, {len(proved)} proved, {faults} not as wanted")
+    return faults == 0
+
+
+def compare(rows, refused):
+    """Shows each wrong body that is refused at another goal than is wanted; whether there is none."""
+    faults = 0
+    for body in sorted(rows.keys() | refused.keys()):
+        goal, seen = rows.get(body, [None])[0], refused.get(body)
         # a name that was cut off is a beginning of the whole
-        if not (goal and found and goal.startswith(found)):
-            print(f"{body}: {found or 'refused at no goal of the source'}, and not {goal or 'written down'}")
+        if not (goal and seen and goal.startswith(seen)):
+            print(f"{body}: refused at {seen or 'no goal of the source'}, and not at {goal or 'one that is written down'}")
             faults += 1
-    print(f"goals: {len(wanted)} {what}, {faults} not as wanted")
+    print(f"goals: {len(rows)} wrong bodies, {faults} not as wanted")
     return faults == 0
 
 
@@ -39,9 +51,8 @@ def main(words):
         GOALS.write_text("".join(f"{' '.join(line)}\n" for line in lines))
         return 0
     if words[0] == "--controls":
-        seen = refused | {body: "proved" for body in PROVED.findall(said)}
-        return 0 if compare("controls", {body: goals[1] for body, goals in rows.items() if goals[1:] and body in seen}, seen) else 1
-    return 0 if compare("wrong bodies", {body: goals[0] for body, goals in rows.items()}, refused) else 1
+        return 0 if compare_controls(rows, refused, set(PROVED.findall(said))) else 1
+    return 0 if compare(rows, refused) else 1
 
 
 if __name__ == "__main__":
