@@ -4,7 +4,7 @@
 LOG is what `rt ci` printed. A line of `goals` is a wrong body of the gate and the first goal at which it is refused: a clause of the
 function that it changes, what a call in it requires, or what every value of a type keeps. A body that comes to be refused at another
 goal first may have lost its attack, or its clause. Behind that stands, where the body's control was tried, a goal at which the body is
-refused and the control is not, or `none`. With --controls LOG is what `rt must-fail` printed of controls: each is shown with the first
+refused and the control is not: the `first`, another, or `none`. With --controls LOG is what `rt must-fail` printed of controls: each is shown with the first
 goal at which it is refused, if it is, which must not be that one. With --write the first goals are written anew: read then what changed.
 """
 import re
@@ -21,8 +21,9 @@ def compare_controls(rows, refused, proved):
     """Shows what became of each control; whether none is refused at the goal that tells its body from it."""
     faults = 0
     for body in sorted(refused.keys() | proved):
-        tells, found = rows.get(body, [])[1:2], refused.get(body)
-        is_wrong = bool(tells and found) and tells[0].startswith(found)
+        goal, tells = (*rows.get(body, []), None, None)[:2]
+        found = refused.get(body)
+        is_wrong = bool(found) and (goal if tells == "first" else tells or "").startswith(found)
         faults += is_wrong
         print(f"{body}: {f'refused first at {found}' if found else 'proved'}{', which is to tell its body from it' if is_wrong else ''}")
     print(f"goals: {len(refused) + len(proved)} controls, {len(proved)} proved, {faults} not as wanted")
