@@ -4,8 +4,9 @@
 LOG is what `rt ci` printed. A line of `goals` is a wrong body of the gate and the first goal at which it is refused: a clause of the
 function that it changes, what a call in it requires, or what every value of a type keeps. A body that comes to be refused at another
 goal first may have lost its attack, or its clause. Behind that stands, where the body's control was tried, a goal at which the body is
-refused and the control is not: the `first`, another, or `none`. With --controls LOG is what `rt must-fail` printed of controls: each is shown with the first
-goal at which it is refused, if it is, which must not be that one. With --write the first goals are written anew: read then what changed.
+refused and the control is not: the `first`, another, or `none`. With --controls LOG is what `rt must-fail` printed of controls: each is
+shown with the first goal at which it is refused, if it is, which must not be that one. With --write the first goals are written anew:
+read then what changed.
 """
 import re
 import sys
