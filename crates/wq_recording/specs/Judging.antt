@@ -1,5 +1,5 @@
 -- What a line of a recording comes to.
-use Rattle.std.specs.Prelude.{◌≡◌, ℕ, List, [], ◌++◌, flat_map, Option, Some, None, IfSome}
+use Rattle.std.specs.Prelude.{◌≡◌, ℕ, List, [], ◌++◌, flat_map, Option, Some, None, IfSome, IsSomeAnd}
 use Rattle.std.specs.Option.{option_to_list}
 use Rattle.wq_words.specs.declared.layout.Layout.{Layout}
 use Rattle.wq_text.specs.declared.fault.LineError.{LineError}
@@ -31,12 +31,12 @@ abbrev pub TellsAll : {A E C : Type 0} → Rules A E → (C → List E → Type 
 TellsAll {A} {E} {C} rules after asked old new =
     (h : List E) → HasTold after old h → HasTold after new (h ++ flat_map rules.tells (option_to_list asked))
 
--- what comes of telling it: the stage and the checker behind it, or its first event that is not legal
-abbrev pub ComesTo : {A E C : Type 0} → Rules A E → (C → Layout) → (C → List E → Type 0) → Stage → Option C → Option A → Told C → Type 0
-ComesTo rules layout_of after next old asked (On s new) = (s ≡ next) × IsMadeAt layout_of next new × TellsAll rules after asked old new
-ComesTo {A} {E} {C} rules layout_of after next old asked (Stop layout c cause) =
-    (layout_of c ≡ layout) × (next ≡ Commands layout) × ((a : A) × (asked ≡ Some a)
-    × ((h : List E) → HasTold after old h → StopsAmong rules layout h (rules.tells a) (after c) cause))
+-- what comes of telling it: the stage and the new checker behind it, or its first event that is not legal
+abbrev pub ComesTo : {A E C : Type 0} → Rules A E → (C → Layout) → (C → List E → Type 0) → Stage → Option C → Option A → Told → Option C → Type 0
+ComesTo rules layout_of after next old asked (On s) new = (s ≡ next) × IsMadeAt layout_of next new × TellsAll rules after asked old new
+ComesTo {A} {E} {C} rules layout_of after next old asked (Stop layout cause) new =
+    (next ≡ Commands layout) × IsSomeAnd new (λ c. (layout_of c ≡ layout) × ((a : A) × (asked ≡ Some a)
+    × ((h : List E) → HasTold after old h → StopsAmong rules layout h (rules.tells a) (after c) cause)))
 
 -- why a line could not be read, as of its text
 abbrev pub refusal_of : ℕ → LineError → ParseError

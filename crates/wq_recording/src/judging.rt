@@ -30,11 +30,11 @@ use wq_words::Layout;
 
 // What a line without a fault comes to.
 #[derive(Drop)]
-pub(crate) enum Told<C: Drop> {
-    // The stage and the checker behind it.
-    On(Stage, Option<C>),
+pub(crate) enum Told {
+    // The stage behind it.
+    On(Stage),
     // Its first event that is not legal has this cause; the checker was told those before.
-    Stop(Layout, C, Cause),
+    Stop(Layout, Cause),
 }
 
 // The checker of a recording, which is made where there is none yet.
@@ -53,26 +53,38 @@ fn made<L: Recording>(
     }
 }
 
-// Tells what a line asks for, behind which the stage is `next`.
+// Tells a checker of this layout what is asked for.
+fn tell_asked<L: Recording>(layout: Layout, checker: &mut L::Checker, asked: L::Asked) -> Told
+    requires made { L.layout_of checker.old ≡ layout }
+    requires fits { L.fits layout asked }
+    ensures { ComesTo L.rules L.layout_of L.is_after (Commands layout) (Some checker.old) (Some asked) result (Some checker.new) }
+{
+    match L::tell(checker, asked) {
+        Ok(()) => Told::On(Stage::Commands(layout)),
+        Err(cause) => Told::Stop(layout, cause),
+    }
+}
+
+// Tells what a line asks for, behind which the stage is `next`; the checker is made where there is none yet.
 fn tell<L: Recording>(
     alloc: Global,
     next: Stage,
-    checker: Option<L::Checker>,
+    checker: &mut Option<L::Checker>,
     asked: Option<L::Asked>,
-) -> Result<Told<L::Checker>, AllocError>
-    requires made { IsMadeAt L.layout_of next checker }
+) -> Result<Told, AllocError>
+    requires made { IsMadeAt L.layout_of next checker.old }
     requires fits { IfSome asked (λ a. (layout : Numbers) × (next ≡ Commands layout) × L.fits layout a) }
-    ensures { IfOk result (ComesTo L.rules L.layout_of L.is_after next checker asked) }
+    ensures { IfOk result (λ told. ComesTo L.rules L.layout_of L.is_after next checker.old asked told checker.new) }
 {
     match (next, asked) {
-        (Stage::Commands(layout), Some(asked)) => {
-            let mut checker = made::<L>(alloc, checker, layout)?;
-            match L::tell(&mut checker, asked) {
-                Ok(()) => Ok(Told::On(next, Some(checker))),
-                Err(cause) => Ok(Told::Stop(layout, checker, cause)),
+        (Stage::Commands(layout), Some(asked)) => match checker {
+            Some(checker) => Ok(tell_asked::<L>(layout, checker, asked)),
+            None => {
+                let checker = checker.insert(L::checker(alloc, layout)?);
+                Ok(tell_asked::<L>(layout, checker, asked))
             }
-        }
-        _ => Ok(Told::On(next, checker)),
+        },
+        _ => Ok(Told::On(next)),
     }
 }
 
@@ -80,13 +92,13 @@ fn tell<L: Recording>(
 fn tell_line<L: Recording>(
     alloc: Global,
     stage: Stage,
-    checker: Option<L::Checker>,
+    checker: &mut Option<L::Checker>,
     line: &[u8],
-) -> Result<Told<L::Checker>, LineError>
+) -> Result<Told, LineError>
     requires sound { SoundAt L.grammar.most.senders L.fits stage [] }
-    requires made { IsMadeAt L.layout_of stage checker }
+    requires made { IsMadeAt L.layout_of stage checker.old }
     ensures told { IfOk result (λ told. (next : Awaited) × (one : Option L.Asked) × (line_gives L.grammar stage line.now ≡ Ok (next, one))
-        × SoundAt L.grammar.most.senders L.fits next [] × ComesTo L.rules L.layout_of L.is_after next checker one told) }
+        × SoundAt L.grammar.most.senders L.fits next [] × ComesTo L.rules L.layout_of L.is_after next checker.old one told checker.new) }
     ensures fault { IfErr result (λ e. LineFailsAs e (line_gives L.grammar stage line.now)) }
 {
     let (next, asked) = read_line::<L>(alloc, stage, line)?;
@@ -166,20 +178,18 @@ pub(crate) fn judge<L: Recording, B: BufRead>(
                 return Ok(finding);
             }
         };
-        let told = match tell_line::<L>(alloc, stage, checker, text) {
+        let told = match tell_line::<L>(alloc, stage, &mut checker, text) {
             Ok(told) => told,
             Err(error) => return Err(CheckError::Text(refusal(number, error))),
         };
         match told {
-            Told::On(next, new) => {
-                stage = next;
-                checker = new;
-            }
-            Told::Stop(layout, told, cause) => {
+            Told::On(next) => stage = next,
+            Told::Stop(layout, cause) => {
                 let stop = Stop {
                     line: number,
                     cause,
                 };
+                let told = checker.unwrap();
                 let finding = found::<L>(alloc, layout, &told, Some(stop))?;
                 return Ok(finding);
             }

@@ -66,11 +66,12 @@ returns-in-Stop-clause-found g c = λ known taken got.
     let r = g.L.Recording in
     let l = c.loop-number in
     let whole = sym c.deref.ensures.value ∙ c.in-Line.ensures in
-    let told = rw (c.in-Stop.is) at c.in-Ok.ensures.told in
+    let told = rw (c.in-Stop.is, c.unwrap-told.ensures) at c.in-Ok.ensures.told in
     let comes = told.4 in
-    let given = told.2 ∙ ap (λ one. Ok (told.0, one)) comes.2.1 in
+    let stops = comes.1.1 in
+    let given = told.2 ∙ ap (λ one. Ok (told.0, one)) stops.1 in
     reads_stop (line_gives g.L.Language.grammar) r.rules r.layout_of r.is_after known l.number l.stage l.checker l.line.items (g.B.Read.remaining l.reader)
-    told.0 comes.2.0 _ c.in-Stop.layout c.in-Stop.told c.in_ok-finding-in-Stop.finding c.in-Line.text.now whole given refl comes.0 comes.1 comes.2.2
+    told.0 stops.0 _ c.in-Stop.layout c.unwrap-told.result c.in_ok-finding-in-Stop.finding c.in-Line.text.now whole given refl comes.1.0 comes.0 stops.2
     g.met.L.Recording.legal c.in_ok-finding-in-Stop.ensures.says (l.invariant.reads known taken got)
 
 pub loop-number-preserved : goal.loop-number-preserved
@@ -85,9 +86,9 @@ loop-number-preserved g c =
     let language = g.L.Language in
     record {
       sound = subst (λ (s : Stage). SoundAt language.grammar.most.senders language.fits s []) (sym comes.0) told.3;
-      made = subst (λ (s : Stage). IsMadeAt r.layout_of s c.in-On.new) (sym comes.0) comes.1;
+      made = subst (λ (s : Stage). IsMadeAt r.layout_of s c.tell_line.new.checker) (sym comes.0) comes.1;
       reads = λ known taken got. reads_on (line_gives language.grammar) r.rules r.layout_of r.is_after known l.number l.stage l.checker
-          l.line.items (g.B.Read.remaining l.reader) next told.1 c.in-On.new c.in-Line.text.now c.next_line.new.line.items
+          l.line.items (g.B.Read.remaining l.reader) next told.1 c.tell_line.new.checker c.in-Line.text.now c.next_line.new.line.items
           (g.B.Read.remaining c.next_line.new.reader) whole given comes.2 c.in_ok-next_line.ensures.bytes c.in_ok-next_line.ensures.line
           (l.invariant.reads known taken got);
     }

@@ -3,7 +3,7 @@ use Rattle.wq_recording.proofs.judging.tell_line.Goals as goal
 
 pub tell-requires-clause-made : goal.tell-requires-clause-made
 tell-requires-clause-made g c =
-    made_behind g.L.Language.grammar g.L.Recording.layout_of c.args.stage c.in_ok-next.next c.in_ok-next.asked c.args.checker c.args.line.now
+    made_behind g.L.Language.grammar g.L.Recording.layout_of c.args.stage c.in_ok-next.next c.in_ok-next.asked c.args.checker.now c.args.line.now
     c.requires.made c.in_ok-next.ensures.exact
 
 pub tell-requires-clause-fits : goal.tell-requires-clause-fits
