@@ -7,6 +7,7 @@ what files say and not by when they were written, so the crates below count as b
 `out` is back in the repository. A crate starts when those below it are built, first the one with the longest chain of crates above it.
 One at a time gets a job for each processor, up to four; the others run beside it, with a job each, on what it leaves.
 """
+import fcntl
 import os
 import re
 import shutil
@@ -123,7 +124,15 @@ def prove_all(named, crates, log):
     return True
 
 
+def lone_run():
+    """Waits for another run in this repository, which would take the trees away, and keeps others out while the file is open."""
+    lock = open(TOP / "crates.txt")
+    fcntl.flock(lock, fcntl.LOCK_EX)
+    return lock
+
+
 def main():
+    _lock = lone_run()
     named = named_crates()
     crates = with_below(named, PROGRAM)
     clear_trees()

@@ -1,12 +1,14 @@
 #!/usr/bin/env python3
-"""Compares where the prover refused each wrong body with the file `goals`: goals.py LOG, goals.py --controls LOG, or goals.py --write LOG.
+"""Compares where the prover refused each wrong body with the file `goals`: goals.py LOG, goals.py --controls LOG CRATE.., or
+goals.py --write LOG.
 
 LOG is what `rt ci` printed. A line of `goals` is a wrong body of the gate and the first goal at which it is refused: a clause of the
 function that it changes, what a call in it requires, or what every value of a type keeps. A body that comes to be refused at another
 goal first may have lost its attack, or its clause. Behind that stands, where the body's control was tried, a goal at which the body is
-refused and the control is not: the `first`, another, or `none`. With --controls LOG is what `rt must-fail` printed of controls: each is
-shown with the first goal at which it is refused, if it is, which must not be that one. With --write the first goals are written anew:
-read then what changed.
+refused and the control is not: the `first`, another, or `none`. With --controls LOG is what `rt must-fail` printed of the controls of
+these crates: each is shown with the first goal at which it is refused, if it is, which must not be that one, and each has to be there.
+The log has first goals alone, so a goal behind the first and `none` are not compared whole. With --write the first goals are written
+anew: read then what changed.
 """
 import re
 import sys
@@ -18,9 +20,17 @@ REFUSED = re.compile(r"must-fail (\S+)\.edit: refused, as it must be: note: src/
 PROVED = re.compile(r"must-fail (\S+)\.edit: NOT REFUSED")
 
 
-def compare_controls(rows, refused, proved):
-    """Shows what became of each control; whether none is refused at the goal that tells its body from it."""
+def controls_of(crates):
+    """The controls of these crates, by the names of their bodies."""
+    return {f"{it.parent.name}/{it.stem}" for it in GOALS.parent.glob("controls/*/*.edit") if it.parent.name in crates}
+
+
+def compare_controls(rows, refused, proved, wanted):
+    """Shows what became of each control; whether all have a verdict, and none is refused at the goal that tells its body from it."""
     faults = 0
+    for body in sorted(wanted - refused.keys() - proved):
+        faults += 1
+        print(f"{body}: no verdict: not tried, not to be applied, or refused for a limit or a name")
     for body in sorted(refused.keys() | proved):
         goal, tells = (*rows.get(body, []), None, None)[:2]
         found = refused.get(body)
@@ -45,7 +55,7 @@ def compare(rows, refused):
 
 
 def main(words):
-    said = Path(words[-1]).read_text(errors="replace")
+    said = Path(words[1 if words[0].startswith("--") else 0]).read_text(errors="replace")
     refused = dict(REFUSED.findall(said))
     rows = {body: goals for body, *goals in map(str.split, GOALS.read_text().splitlines())}
     if words[0] == "--write":
@@ -53,7 +63,7 @@ def main(words):
         GOALS.write_text("".join(f"{' '.join(line)}\n" for line in lines))
         return 0
     if words[0] == "--controls":
-        return 0 if compare_controls(rows, refused, set(PROVED.findall(said))) else 1
+        return 0 if compare_controls(rows, refused, set(PROVED.findall(said)), controls_of(words[2:])) else 1
     return 0 if compare(rows, refused) else 1
 
 

@@ -26,5 +26,5 @@ if [ "$folder" = wrong_bodies ]; then
 else
     # where a right body is proved, rt says that a wrong one was not refused
     rt must-fail "${names[@]}" >"$room/said" || true
-    "$checks/goals.py" --controls "$room/said"
+    "$checks/goals.py" --controls "$room/said" "${names[@]}"
 fi
