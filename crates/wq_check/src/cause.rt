@@ -26,7 +26,7 @@ pub enum Cause {
     /// No drain has begun.
     #[error("never drained")]
     NeverDrained,
-    /// The queue neither is closed nor drains; of a number given back since the queue was closed, it is not closed.
+    /// The queue neither is closed nor drains; of a number given back because the queue was closed, it is not closed.
     #[error("open")]
     Open,
     /// This number runs.

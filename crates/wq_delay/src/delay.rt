@@ -177,7 +177,8 @@ impl Delay {
     /// Gives an item on the table a new tick, so many ticks from now, and a new arming, and with delay 0 queues it at once with
     /// at most so many tries. Arms an idle item, as `arm` (`mod_delayed_work`). A delay is at most `2^32 - 1`. Where the post of
     /// an item on the table is contended, nothing of the call marks its start, as with `Sender::post`. `WasIdle` and `Moved` do
-    /// not say whether a push found the owner at rest: where it parks, wake it after either with a delay of 0.
+    /// not say whether a push was the first on the list or found the owner at rest, and nobody else is told: after either with a
+    /// delay of 0 wake whoever executes and parks, also a worker in `serve`, and announce a queue of a pool.
     pub fn modify(&mut self, item: u32, delay: u64, tries: u32) -> Modified
         requires item { item < self.old.sender.layout.items }
         requires tries { 0 < tries }
@@ -288,8 +289,9 @@ impl Delay {
     /// closed an item is given back. Where a post is contended, or finds the queue draining, the call ends, and the item stays
     /// on the table with those after it: they go out first at the next advance, after a drain once the queue is resumed.
     ///
-    /// A push may be the one that finds the owner at rest, and what an advance did does not say so: where the owner rests and
-    /// parks, wake it whenever `pushed` is not 0. One wake too many costs it a look.
+    /// A push may be the first on the list, or find the owner at rest, and what an advance did does not say so, nor is anybody else
+    /// told: wherever `pushed` is not 0 wake whoever executes and parks, also a worker in `serve`, and announce a queue of a pool.
+    /// One wake too many costs a look; after one too few nothing of the queue runs until the next.
     ///
     /// # Errors
     /// `Backwards` where the tick is before the present one; nothing has changed.

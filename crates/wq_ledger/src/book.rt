@@ -15,7 +15,7 @@ use crate::totals::Totals;
 use std::marker::Model;
 use wq_live::{Owner, Sender, SenderCounts};
 
-/// What one sender has counted. `Book::meet` and `ValueBook::meet` alone make it.
+/// What one sender has counted. A book alone makes it: its own sender's when it is made, each other's by a meeting.
 #[derive(Clone, Copy, Debug, PartialEq, Eq)]
 pub struct Ledger {
     number: u32,
@@ -73,8 +73,8 @@ impl Model for Book {
 }
 
 impl Book {
-    /// The book of a queue that has run to the end, of its owner and the worker's own sender, which have seen the same. Other
-    /// senders have to meet it before their ledgers are in it.
+    /// The book of a queue that has run to the end, of its owner and the worker's own sender, which have seen the same. Each
+    /// other sender has to meet it, which gives the ledger that `balance` wants of it; that of a delay table after `dissolve`.
     pub fn new(owner: Owner, sender: &Sender) -> Book
         requires one { sender.now.queue ≡ owner.queue }
         requires complete { IsComplete owner.seen }

@@ -39,8 +39,8 @@ impl<V: Drop> Model for ValueBook<V> {
 }
 
 impl<V: Drop> ValueBook<V> {
-    /// The book of a queue that has run to the end, of its owner and the worker's own sender, which have seen the same. Other
-    /// senders have to meet it before their ledgers are in it.
+    /// The book of a queue that has run to the end, of its owner and the worker's own sender, which have seen the same. Each
+    /// other sender has to meet it, which gives the ledger that `balance` wants of it.
     pub fn new(owner: ValueOwner<V>, sender: &ValueSender<V>) -> ValueBook<V>
         requires one { sender.now.known.queue ≡ owner.known.queue }
         requires complete { IsComplete owner.known.seen }

@@ -81,7 +81,7 @@ impl Owner {
     }
 
     /// Closes the queue, also one that drains, takes all that stands on the list, and answers how many that is. What a sender
-    /// queues from now on is answered `Closed`.
+    /// queues from now on is answered `Closed`, or `Pending` where its bit is set.
     pub fn close(&mut self) -> u32
         requires unclosed { ¬ IsClosed self.old.seen }
         ensures seen { Sees (Close ∷ []) 0 self.old self.new }
@@ -99,7 +99,8 @@ impl Owner {
     }
 
     /// Begins a drain (`drain_workqueue`): takes all that stands on the list, and answers how many that is. What a sender
-    /// queues from now on is answered `Draining`, until the queue is resumed. What is executed meanwhile may be chained to.
+    /// queues from now on is answered `Draining`, or `Pending` where its bit is set, until the queue is resumed. What is executed
+    /// meanwhile may be chained to.
     pub fn drain(&mut self) -> u32
         requires open { ¬ IsShut self.old.seen }
         ensures seen { Sees (Drain ∷ []) 0 self.old self.new }

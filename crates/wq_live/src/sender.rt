@@ -238,7 +238,8 @@ impl Sender {
         self.queue_number(number, tries)
     }
 
-    /// Whether the barrier's PENDING bit is clear. All that was accepted before a push of the barrier has then ended.
+    /// Whether the barrier's PENDING bit is clear. All that was accepted before a push of the barrier has then ended. Of a flush
+    /// that `flush_begin` began it tells where that was answered `Queued`; after another answer nothing was waited for.
     pub fn flush_done(&mut self, barrier: u32) -> bool
         requires barrier { barrier < self.old.layout.barriers }
         ensures seen { Sees [] 0 self.old self.new }
@@ -253,9 +254,10 @@ impl Sender {
     /// Queues a barrier, and waits until all that was accepted before it has ended (`flush_workqueue`). Never
     /// `Contended`; after another answer than `Queued` it has waited for nothing.
     ///
-    /// It wakes nobody, since it answers once the barrier has run: beside an owner that rests and parks it would wait for good.
-    /// There, call `flush_begin`, wake the owner where that answers `wakes`, and wait by `flush_done`. A barrier behind the stop
-    /// item waits until the queue is run on after it.
+    /// It wakes nobody, since it answers once the barrier has run: beside an owner that parks, and on a queue in a pool, it would
+    /// wait for good. There, call `flush_begin`, wake whoever executes by its answer (one that rests before it parks on `wakes`,
+    /// one that serves by `serve` of `wq_worker` on `first`, a pool by its `wake`), and wait by `flush_done`. Within an execution
+    /// it would wait for that itself. A barrier behind the stop item waits until the queue is run on after it.
     pub fn flush<R: Wait>(&mut self, rt: &R, barrier: u32) -> Answer
         requires barrier { barrier < self.old.layout.barriers }
         ensures answer { Answers (barrier_number self.old.layout barrier) 0 result self.old self.new }

@@ -34,7 +34,7 @@ impl Default for Spins {
 
 impl Spins {
     /// As many `spin_loop`s as pass in three quarters of a microsecond, from 8 to 512. It takes some 30 microseconds to find
-    /// out, once for all seats of a machine. The error is the clock's.
+    /// out, some 200 where a `spin_loop` takes 45 nanoseconds, once for all seats of a machine. The error is the clock's.
     pub fn measured(clock: &impl Clock) -> io::Result<Spins>
         ensures bounds { IfOk result (λ p. (8 ≤ p.count) × (p.count ≤ 512)) }
     {

@@ -103,9 +103,10 @@ impl<K: Station + Drop> PoolOf<K> {
     }
 
     /// Announces a queue: it waits behind all that were announced before. For the answer of a queueing `wake` does this; by hand
-    /// a queue is announced that rests no more, though no push of the pool's time woke it: one onto which something was pushed, or
-    /// whose worker has taken something, before the pool was made. Each announcement is picked once, so one too many costs a pick
-    /// that may find nothing. It takes a place besides, and while all places are taken `wake` waits.
+    /// a queue is announced that rests no more, though nobody was told of a push that woke it: one onto which something was
+    /// pushed, or whose worker has taken something, before the pool was made, and one onto which a delay table pushed. Each
+    /// announcement is picked once, so one too many costs a pick that may find nothing. It takes a place besides, and while all
+    /// places are taken `wake` waits.
     ///
     /// # Errors
     /// `NoQueue` exactly where the pool has no queue of this number. `Full` only where as many announcements as the pool has queues

@@ -130,7 +130,8 @@ impl<K: Station + Drop + Send> PoolOf<K> {
 
     /// Serves what is announced, in one thread for each caller, until every queue has run its stop item since its worker was handed
     /// over. Where no thread can be made the callers serve in turn. Each caller comes back with what it has seen. A caller that
-    /// finds nothing announced gives its processor way and looks again; it does not park.
+    /// finds nothing announced gives its processor way and looks again; it does not park. With no caller it ends at once, and so it
+    /// does where each stop item has run before: what is queued after that is to be worked on by `pick`.
     ///
     /// It does not end while a queue has no stop item to run: one that was closed without it, as all are after a `finish` that
     /// gave the pool back, is to be worked on by `pick`.

@@ -45,7 +45,7 @@ is_busy (Busy s k) = true
 is_busy (ChainBusy k) = true
 is_busy _ = false
 
--- a number was given back since the queue took no push: it was closed, or drained
+-- a number was given back because the queue took no push: it was closed, or drained
 abbrev pub is_refusal : Event → Bool
 is_refusal (Back s k Closed) = true
 is_refusal (Back s k Draining) = true

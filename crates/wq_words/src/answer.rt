@@ -7,11 +7,12 @@ pub enum Answer {
     /// behind it has ended. `first` says that the list was empty (`llist_add` answers true), `wakes` that the queue rested:
     /// who parks its owner after a rest wakes it.
     Queued { first: bool, wakes: bool },
-    /// The number was pending already, and nothing was changed (`queue_work` answers false).
+    /// The number was pending already, and nothing was changed (`queue_work` answers false). Who set its bit may yet give it
+    /// back: then it does not run, and who was told this learns nothing of it.
     Pending,
     /// The queue is closed. The number is not held by the caller.
     Closed,
-    /// Other seats changed the list at each try. The number is not held by the caller.
+    /// Other seats changed the head at each try. The number is not held by the caller.
     Contended,
     /// The queue was seen draining. The number is not held by the caller.
     Draining,
@@ -24,7 +25,7 @@ pub enum Posted {
     Queued { first: bool, wakes: bool },
     /// The queue is closed, and the number was given back.
     Closed,
-    /// Other seats changed the list at each try. The number is still held.
+    /// Other seats changed the head at each try. The number is still held.
     Contended,
     /// The queue was seen draining. The number is still held.
     Draining,
@@ -41,7 +42,7 @@ pub enum Armed {
     Pending,
     /// The delay is 0 and the queue is closed. The item is not held.
     Closed,
-    /// The delay is 0 and other seats changed the list at each try. The item is not held.
+    /// The delay is 0 and other seats changed the head at each try. The item is not held.
     Contended,
     /// The delay is 0 and the queue was seen draining. The item is not held.
     Draining,
@@ -62,7 +63,7 @@ pub enum Modified {
     Pending,
     /// The delay is 0 and the queue is closed. The item is not held and not on the table.
     Closed,
-    /// The delay is 0 and other seats changed the list at each try. An item on the table stays there; another is not held.
+    /// The delay is 0 and other seats changed the head at each try. An item on the table stays there; another is not held.
     Contended,
     /// The delay is 0 and the queue was seen draining. An item on the table stays there; another is not held.
     Draining,

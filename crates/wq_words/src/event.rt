@@ -19,7 +19,7 @@ pub enum Why {
 }
 
 /// What one atomic step adds to the history of a queue. The first four are by the sender that they name first, all
-/// others by the owner; the number comes last.
+/// others by the owner; then comes the number.
 #[derive(Clone, Copy, Debug, PartialEq, Eq)]
 pub enum Event {
     /// The sender found the PENDING bit clear and set it: the number is held by it (`test_and_set_bit` in

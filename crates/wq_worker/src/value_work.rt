@@ -3,7 +3,8 @@ ghost use Rattle.std.specs.Prelude.{◌≡◌, ℕ, List, [], ◌∷◌, ◌++�
 
 use crate::value_follow::ValueFollow;
 
-/// The function of a queue's items, each of which brings a value. It queues nothing by itself.
+/// The function of a queue's items, each of which brings a value. What it asks for the worker queues. It may queue by a sender of
+/// its own, too, but not flush: that would wait for the run itself.
 pub trait ValueWork<V: Drop> {
     /// The items that were run so far, each with the value that it was handed, in order. An implementation keeps them in a field
     /// that contracts alone see.

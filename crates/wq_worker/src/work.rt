@@ -6,7 +6,8 @@ use arrayvec::ArrayVec;
 /// The items that a run asks to be queued next, in this order. Numbers that are not items are passed over.
 pub type Follow = ArrayVec<u32, 4>;
 
-/// The function of a queue's items. It queues nothing by itself.
+/// The function of a queue's items. What it asks for the worker queues. It may queue by a sender of its own, too, but not flush:
+/// that would wait for the run itself.
 pub trait Work {
     /// The items that were run so far. An implementation keeps them in a field that contracts alone see.
     ghost log: { Self → List ℕ };
