@@ -32,7 +32,8 @@ library:
 install: build library
 	install -D -m 755 $(PROGRAM) "$(DESTDIR)$(PREFIX)/bin/wqrun"
 	install -D -m 644 man/wqrun.1 "$(DESTDIR)$(PREFIX)/share/man/man1/wqrun.1"
-	install -D -m 644 docs/FORMATS.md "$(DESTDIR)$(PREFIX)/share/doc/wqrun/FORMATS.md"
+	install -D -m 644 -t "$(DESTDIR)$(PREFIX)/share/doc/wqrun" docs/FORMATS.md docs/RECORDING.md
+	install -D -m 755 -t "$(DESTDIR)$(PREFIX)/share/doc/wqrun" examples/recording/wq_trace.py
 	checks/c_install.sh $(LIBRARY) "$(PREFIX)" "$(DESTDIR)"
 
 # Each example writes what is stored beside it, and ends with the status that is stored.
