@@ -13,4 +13,4 @@ pub mod word;
 
 pub use error::SeatError;
 pub use laws::counts_balance;
-pub use seat::{Seat, vacant};
+pub use seat::{Seat, moved_seat, vacant};

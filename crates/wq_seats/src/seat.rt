@@ -21,3 +21,16 @@ pub fn vacant() -> Seat
 {
     Seat::Vacant
 }
+
+fn moved<T: Send>(value: T) -> T
+    ensures { result ≡ value }
+{
+    value
+}
+
+/// A seat, moved as to another thread: its type is `Send`.
+pub fn moved_seat(seat: Seat) -> Seat
+    ensures same { result ≡ seat }
+{
+    moved(seat)
+}
