@@ -2,7 +2,8 @@
 """Does what docs/RECORDING.md says, in each of its languages that is installed: recording_page.py PROGRAM.
 
 The page's own lines, as they stand, are put where it says into a queue under a lock, with three senders and one worker.
-What the queue then prints must be legal and drained, as PROGRAM judges it. A language without a compiler is left out.
+What the queue then prints must be legal and drained, as PROGRAM judges it. Rust is left out where no compiler of it runs; one of C is
+wanted.
 """
 import os
 import re
@@ -112,6 +113,11 @@ def compilers():
     yield "Rust", RUST, "rs", ["rustc", "--edition", "2021", "-O"]
 
 
+def runs(compiler):
+    """Whether there is such a compiler: a name of rustup's that has no toolchain behind it is none."""
+    return shutil.which(compiler) and subprocess.run([compiler, "--version"], capture_output=True, timeout=60).returncode == 0
+
+
 def lines_of(page, language):
     """Returns the page's lines for a language: those that keep the marks, that queue, that work, and that print."""
     told = re.search(rf"^In {language}\b.*?(?=^In |^What it prints)", page, re.M | re.S)
@@ -140,8 +146,9 @@ def main():
         page = file.read()
     wrong = 0
     for language, text, ending, words in compilers():
-        if not shutil.which(words[0]):
-            print(f"recording page: no {words[0]}, so {language} is left out")
+        if not runs(words[0]):
+            print(f"recording page: no {words[0]} runs, so {language} is left out" + (": not as wanted" if language == "C" else ""))
+            wrong += language == "C"
             continue
         with tempfile.TemporaryDirectory() as folder:
             said = said_of(page, language, text, ending, words, os.path.realpath(sys.argv[1]), folder)
