@@ -5,10 +5,11 @@
  * seat is the worker's until wq_worker_finish or wq_worker_stop has returned: no other thread makes a call in it, and a worker that
  * finds one there tries again until it has gone. A sender's thread calls wq_worker_queue and wq_worker_flush, or hands what a call
  * of wq.h answered to wq_worker_wake. One thread at a time calls wq_worker_drain, wq_worker_resume, wq_worker_finish and
- * wq_worker_stop. The worker's own function returns: it neither ends its thread nor lets an exception out. It calls none of the first
- * two and no wq_worker_flush: each waits for the function to return. In the owner's seat it calls wq_chain, wq_hand_out and what only
- * looks; a wq_close or wq_drain there stops or drains the queue, but the worker knows nothing of it, and sleeps until it is asked to.
- * wq_worker_resume alone does not end such a drain: call wq_worker_drain first.
+ * wq_worker_stop, and beside it the worker's own function may call the last two. That function returns: it neither ends its thread
+ * nor lets an exception out. It calls none of the first two and no wq_worker_flush: each waits for the function to return. In the
+ * owner's seat it calls wq_chain, wq_hand_out and what only looks; a wq_close or wq_drain there stops or drains the queue, but the
+ * worker knows nothing of it, and sleeps until it is asked to. wq_worker_resume alone does not end such a drain: call wq_worker_drain
+ * first.
  *
  * The worker's memory is zero before its first start: static, or = {0}, in C++ = {}. A start that answers an error writes nothing there,
  * but where that is WQ_NO_THREAD, and a wq_worker_stop behind it reads it.
@@ -150,10 +151,14 @@ static inline uint32_t wq_worker_launch(wq_worker *worker, wq_seat *owner, uint3
 /* Starts a thread that executes the queue of this owner, which has so many items. WQ_OK or WQ_NO_THREAD; or, without a thread, what
  * wq_rest answers to a seat that is no owner's (WQ_NO_SEAT, WQ_SEAT_BUSY, WQ_NOT_OWNER), a queue that is closed or drains, and an owner
  * that has not ended all that it took (WQ_IS_CLOSED, WQ_IS_DRAINING, WQ_SOME_WAIT, WQ_IS_RUNNING): a worker would get nowhere.
- * WQ_IN_USE where a worker executes from this seat already, and WQ_NO_ITEM where the queue has another number of items. After
- * WQ_NO_ITEM and WQ_NO_THREAD the queue may rest. */
+ * WQ_IN_USE where a worker executes from this seat already, or a worker runs in this memory, and WQ_NO_ITEM where the queue has another
+ * number of items. After WQ_NO_ITEM and WQ_NO_THREAD the queue may rest. */
 static inline uint32_t wq_worker_start(wq_worker *worker, wq_seat *owner, uint32_t items, wq_function *function, void *data) {
-    uint32_t code = wq_worker_claim(owner);
+    uint32_t code;
+#ifndef WQ_UNCHECKED
+    if (wq_load(&worker->runs)) return WQ_IN_USE;
+#endif
+    code = wq_worker_claim(owner);
     if (code) return code;
     code = wq_worker_launch(worker, owner, items, function, data);
     if (code) wq_worker_disclaim(owner);
@@ -187,9 +192,9 @@ static inline uint32_t wq_worker_flush(wq_worker *worker, wq_seat *sender, uint3
     }
 }
 
-/* Drains the queue: sleeps until all that was accepted has ended. Until wq_worker_resume a queueing is answered WQ_DRAINING. Neither is
- * for the worker's own function. Both return at once where there is no thread that would do it: the worker was not started, in memory
- * that is zero, or wq_worker_finish has returned. */
+/* Drains the queue: sleeps until all that was accepted has ended. Until wq_worker_resume a queueing is answered WQ_DRAINING, or
+ * WQ_PENDING where the number's bit is set. Neither is for the worker's own function. Both return at once where there is no thread that
+ * would do it: the worker was not started, in memory that is zero, or wq_worker_finish has returned. */
 static inline void wq_worker_drain(wq_worker *worker) {
     if (!worker->runs) return;
     wq_worker_ask(worker, WQ_DRAINED);

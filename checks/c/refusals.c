@@ -3,7 +3,6 @@
 #include "check.h"
 #include "wq_worker.h"
 #include <errno.h>
-#include <string.h>
 
 static size_t seat_size, seat_align;
 
@@ -38,9 +37,8 @@ static void run(uint32_t item, void *data) {
 }
 
 static void no_thread(void) {
-    wq_worker worker;
+    wq_worker worker = {0}; /* on the stack */
     uint32_t number;
-    memset(&worker, 0x41, sizeof worker); /* as it may lie on a stack */
     CHECK(wq_build(&owner, 4, 1, 1) == WQ_OK && wq_hand_out(&owner, &sender) == WQ_OK);
     CHECK(wq_queue(&sender, 2) == (WQ_QUEUED | WQ_FIRST | WQ_WAKES));
     CHECK(wq_worker_start(&worker, &owner, 4, run, NULL) == WQ_NO_THREAD);

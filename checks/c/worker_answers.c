@@ -83,16 +83,20 @@ static void started(void) {
     }
 }
 
-/* A second worker on a seat, in the first one's memory or in other, changes nothing, and the seat is free again behind the first. The one
- * that was not started drains, resumes and ends nothing, and waits for nothing; nor does the first one once it has ended. */
+/* A second worker on a seat, in the first one's memory or in other, changes nothing, and the seat is free again behind the first; nor does
+ * one on another seat in the first one's memory. The one that was not started drains, resumes and ends nothing, and waits for nothing;
+ * nor does the first one once it has ended. */
 static void second(void) {
     static wq_worker another;
+    static wq_seat elsewhere;
+    CHECK(wq_init(&elsewhere) == WQ_OK && wq_build(&elsewhere, ITEMS, BARRIERS, 1) == WQ_OK);
     for (int turn = 0; turn < 2; turn++) {
         build();
         ran = 0;
         CHECK(wq_worker_start(&worker, &owner, ITEMS, count, &worker) == WQ_OK);
         uint32_t before = threads();
         is_refused(&owner, WQ_IN_USE);
+        is_refused(&elsewhere, WQ_IN_USE);
         CHECK(wq_worker_start(&another, &owner, ITEMS, count, &another) == WQ_IN_USE && threads() <= before);
         wq_worker_drain(&another);
         wq_worker_resume(&another);
@@ -105,6 +109,7 @@ static void second(void) {
         is_refused(&owner, WQ_IS_CLOSED);
         release_all();
     }
+    CHECK(wq_close(&elsewhere, WQ_NO_NUMBER) == WQ_OK && wq_release(&elsewhere) == WQ_OK);
 }
 
 /* Each comes while the worker rests or soon does, and is executed. */
@@ -192,27 +197,36 @@ static void occupied(void) {
     CHECK(wq_release(&sender) == WQ_OK && wq_release(&other) == WQ_OK);
 }
 
-/* In the worker's own thread a stop asks for the end and joins nothing. The sleep lets another thread's call come before the end. */
+/* When another thread drains a worker whose function stops it. */
+enum { NEVER, BEHIND_THE_STOP, BEFORE_THE_STOP, TURNS };
+static uint32_t drains;
+
+/* In the worker's own thread a stop asks for the end and joins nothing. It lets another thread's call come before the end, or waits until
+ * that thread is in its drain. */
 static void stop_inside(uint32_t item, void *data) {
-    const struct timespec while_stopped = {0, 20 * 1000 * 1000};
+    const struct timespec while_called = {0, 20 * 1000 * 1000};
     CHECK(data == &worker);
     if (item == FIRST_RUN) {
-        CHECK(wq_is_queued(wq_worker_queue(&worker, &sender, BEHIND_FLUSH)) && wq_worker_stop(&worker) == WQ_NOT_DONE);
+        CHECK(wq_is_queued(wq_worker_queue(&worker, &sender, BEHIND_FLUSH)));
+        if (drains != BEFORE_THE_STOP) CHECK(wq_worker_stop(&worker) == WQ_NOT_DONE);
         __atomic_add_fetch(&ran, 1, __ATOMIC_SEQ_CST);
-        nanosleep(&while_stopped, NULL);
+        while (drains == BEFORE_THE_STOP && wq_load(&worker.wanted) != WQ_DRAINED) sched_yield();
+        nanosleep(&while_called, NULL);
+        if (drains == BEFORE_THE_STOP) CHECK(wq_worker_stop(&worker) == WQ_NOT_DONE);
     }
     __atomic_add_fetch(&ran, 1, __ATOMIC_SEQ_CST);
 }
 
-/* The other thread stops the worker, too; the second time it drains and resumes it before, which takes nothing back. */
+/* The other thread stops the worker, too. In two turns it drains and resumes it before: behind the function's stop, which that takes
+ * nothing back of, and before it, so that the stop ends its wait. */
 static void stopped_inside(void) {
-    for (int drains = 0; drains < 2; drains++) {
+    for (drains = NEVER; drains < TURNS; drains++) {
         build();
         ran = 0;
         CHECK(wq_worker_start(&worker, &owner, ITEMS, stop_inside, &worker) == WQ_OK);
         CHECK(wq_is_queued(wq_worker_queue(&worker, &other, FIRST_RUN)));
         while (wq_load(&ran) == 0) sched_yield();
-        if (drains) {
+        if (drains != NEVER) {
             wq_worker_drain(&worker);
             wq_worker_resume(&worker);
             CHECK(wq_worker_queue(&worker, &other, ITEMS - 1) == WQ_CLOSED);
