@@ -3,6 +3,7 @@ use std::alloc::{Layout, alloc, dealloc};
 
 extern "C" {
     fn wq_c_seat_size() -> usize;
+    fn wq_c_seat_align() -> usize;
     fn wq_c_init(at: *mut u8);
     fn wq_c_build(at: *mut u8, items: u32, barriers: u32, senders: u32) -> u64;
     fn wq_c_hand_out(at: *mut u8, to: *mut u8) -> u64;
@@ -26,6 +27,7 @@ impl Seat {
         Layout::from_size_align(unsafe { wq_c_seat_size() }, 128).expect("a layout")
     }
     fn vacant() -> Seat {
+        assert_eq!(128 % unsafe { wq_c_seat_align() }, 0);
         let at = unsafe { alloc(Seat::layout()) };
         assert!(!at.is_null());
         unsafe { wq_c_init(at) };
@@ -34,6 +36,10 @@ impl Seat {
     fn call(&mut self, call: impl FnOnce(*mut u8) -> u64) -> Result<u32, u32> {
         let word = call(self.0);
         if (word as u32) < 64 { Ok(word as u32 | (word >> 32) as u32) } else { Err(word as u32) }
+    }
+    /// The two seats are different ones, since each is behind a `&mut` of its own.
+    fn hand_out(&mut self, to: &mut Seat) -> Result<u32, u32> {
+        self.call(|at| unsafe { wq_c_hand_out(at, to.0) })
     }
 }
 
@@ -48,8 +54,7 @@ fn main() {
     let (mut owner, mut senders) = (Seat::vacant(), vec![Seat::vacant(), Seat::vacant()]);
     owner.call(|at| unsafe { wq_c_build(at, 128, 1, 2) }).expect("a queue");
     for sender in &mut senders {
-        let to = sender.0;
-        owner.call(|at| unsafe { wq_c_hand_out(at, to) }).expect("a sender");
+        owner.hand_out(sender).expect("a sender");
     }
     let feed = |mut seat: Seat| {
         let number = seat.call(|at| unsafe { wq_c_number(at) }).expect("a number");

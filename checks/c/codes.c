@@ -43,6 +43,9 @@ static void sending(void) {
     CHECK(wq_queue(&one, 2) == (WQ_QUEUED | WQ_FIRST | WQ_WAKES) && wq_queue(&one, 2) == WQ_PENDING);
     CHECK(wq_is_pending(&one, 2) == WQ_YES && wq_queue(&one, 0) == WQ_QUEUED);
     CHECK(wq_flush_begin(&one, 1) == WQ_NO_BARRIER && wq_flush_done(&one, 1) == WQ_NO_BARRIER);
+    /* wq.h gives these two the most tries, so only the exports can be given none */
+    CHECK(wq_c_flush_begin(one.room, 0, 0) == WQ_NO_TRIES && wq_c_flush_begin(one.room, 1, 0) == WQ_NO_BARRIER);
+    CHECK(wq_c_request_stop(one.room, 0) == WQ_NO_TRIES && wq_flush_done(&one, 0) == WQ_YES);
 }
 
 static void executing(void) {

@@ -16,6 +16,17 @@ static void *both(void *given) {
     return NULL;
 }
 
+/* A hand-out that the owner's seat refuses has left the other seat, which it enters first. */
+static void owner_is_refused(void) {
+    static wq_seat unmade, vacant;
+    CHECK(wq_init(&vacant) == WQ_OK);
+    CHECK(wq_hand_out(&unmade, &vacant) == WQ_NO_SEAT && wq_release(&vacant) == WQ_OK);
+    owner.held = 1; /* as while a call of another thread is in it */
+    CHECK(wq_hand_out(&owner, &vacant) == WQ_SEAT_BUSY && wq_release(&vacant) == WQ_OK);
+    owner.held = 0;
+    CHECK(wq_hand_out(&owner, &vacant) == WQ_NO_SENDER && wq_release(&vacant) == WQ_OK);
+}
+
 int main(void) {
     static wq_seat blank, copy;
     uint64_t busy[2] = {0, 0};
@@ -33,6 +44,7 @@ int main(void) {
     CHECK(wq_queue(&shared, 0) == WQ_SEAT_BUSY && wq_release(&shared) == WQ_SEAT_BUSY && wq_hand_out(&owner, &shared) == WQ_SEAT_BUSY);
     CHECK(wq_hand_out(&shared, &shared) == WQ_SEAT_BUSY);
     shared.held = 0;
+    owner_is_refused();
     for (int i = 0; i < 2; i++) CHECK(pthread_create(&ids[i], NULL, both, &busy[i]) == 0);
     for (int i = 0; i < 2; i++) CHECK(pthread_join(ids[i], NULL) == 0);
     CHECK(wq_take(&owner, &count) == WQ_OK && count == 64);
