@@ -36,9 +36,13 @@ CALLS = [
     ("count", "SaidCount", ("which: u32",), "One of the seat's counts, which is the whole word."),
 ]
 
-HEAD = """//! The calls of a queue for a caller in C. Each takes the memory of a seat, which is the call's until it returns, and leaves a seat
-//! there. It answers a word: a code in the low 32 bits and, above them, a number where the answer has one. `pure` has the calls
-//! that want no seat. `checks/walks.py` writes this file.
+HEAD = """//! The calls of a queue for a caller in C. Each but the two that tell how large a seat is takes the memory of a seat, which is the
+//! call's until it returns, and leaves a seat there. It answers a word: a code in the low 32 bits and, above them, a number where the
+//! answer has one. `pure` has the calls that want no seat. `checks/walks.py` writes this file.
+//!
+//! # Safety
+//! A call in C owes what the export's `requires*` says: that a seat, or room for one, lies at the address, and that nobody else
+//! reads or writes there until the call returns. `include/wq.h` says how a program sees to that.
 #![tactic(auto)]
 
 ghost use Rattle.std.specs.Borrow.{full_share, sem};
