@@ -1,7 +1,8 @@
 #!/usr/bin/env bash
 # Builds the library of C, and tests the calls of include/ from C, C++, Python and Rust: c_api.sh [WQRUN]. Where the program WQRUN is
 # named, it judges the histories of the random runs. Tools that are not installed are left out, each with a line: valgrind, rustc,
-# c++, python3, and the sanitizers of cc and of clang. Three minutes of a processor, beside the proof of wq_c, which the other compiler of the kit wants once more.
+# c++, python3, and the sanitizers of cc and of clang. Three minutes of a processor, beside the proof of wq_c; the other compiler of the
+# kit takes that proof as it is kept.
 set -euo pipefail
 wqrun=${1:+$(realpath "$1")}
 cd "$(dirname "${BASH_SOURCE[0]}")/.."
@@ -23,6 +24,16 @@ built() {
 }
 left_out() {
     echo "$1: not installed, so left out"
+}
+# A sanitizer's memory must not meet the program's, so addresses are not mixed where the system allows that.
+unmixed=()
+! setarch -R true 2>/dev/null || unmixed=(setarch -R)
+# sanitizes COMPILER SANITIZER: whether a program that the compiler makes with it runs
+sanitizes() {
+    echo 'int main(void) { return 0; }' | "$1" -x c -fsanitize="$2" -o "$work/tried" - 2>/dev/null && "${unmixed[@]}" "$work/tried" 2>/dev/null
+}
+does_not_run() {
+    echo "$1: not there, or does not run, so left out"
 }
 
 built codes
@@ -106,23 +117,23 @@ else
     left_out valgrind
 fi
 for sanitizer in address,undefined thread; do
-    if echo 'int main(void) { return 0; }' | "${CC:-cc}" -x c -fsanitize=$sanitizer -o "$work/tried" - 2>/dev/null && setarch -R "$work/tried" 2>/dev/null; then
+    if sanitizes "${CC:-cc}" $sanitizer; then
         for program in codes "threads 100" worker worker_answers pure "random $work/runs 1 20"; do
             built "${program%% *}" -fsanitize=$sanitizer
             # shellcheck disable=SC2086 # the words of the program
-            timeout 60 setarch -R "$work/"$program >"$work/said"
+            timeout 60 "${unmixed[@]}" "$work/"$program >"$work/said"
         done
         echo "-fsanitize=$sanitizer: no report"
     else
-        left_out "-fsanitize=$sanitizer"
+        does_not_run "-fsanitize=$sanitizer"
     fi
 done
-if echo 'int main(void) { return 0; }' | clang -x c -fsanitize=thread -o "$work/tried" - 2>/dev/null && setarch -R "$work/tried" 2>/dev/null; then
+if sanitizes clang thread; then
     CC=clang built threads -fsanitize=thread
-    timeout 60 setarch -R "$work/threads" 100 >"$work/said"
+    timeout 60 "${unmixed[@]}" "$work/threads" 100 >"$work/said"
     echo "-fsanitize=thread of clang: no report"
 else
-    left_out "-fsanitize=thread of clang"
+    does_not_run "-fsanitize=thread of clang"
 fi
 if command -v "${CXX:-c++}" >/dev/null; then
     "${CXX:-c++}" -std=c++11 -O2 -Wall -Wextra -Werror -pthread -Iinclude -o "$work/client" checks/c/client.cc "$work/libyeangvos.a"

@@ -21,7 +21,7 @@ over_proved() {
     mkdir -p out
     "$kit/bin/rattle" build --crate-name wq_c src/lib.rt "${below[@]}" --links wq_c= --crate-type staticlib \
         --antt-project "$kit/rattle/logic/antt-project.json" --logic-built "$kit/logic_built" \
-        --toolchain "$kit/toolchain" --backend "$backend" --jobs 1 -o out/libwq_c.a
+        --toolchain "$kit/toolchain" --backend "$backend" --jobs 1 --incremental out/incremental -o out/libwq_c.a
 }
 
 built() {
