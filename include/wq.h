@@ -5,9 +5,10 @@
  * `wq_release`. No call takes NULL for a seat, and none finds it out.
  *
  * Threads: any thread may use a seat, but one call at a time may be in it. A seat is handed to another thread by that thread's
- * start or join, a lock, or an atomic; different seats of one queue need nothing. No call waits, takes a lock, or starts a
- * thread; only wq_build takes memory, which the release of a queue's last seat frees, and wq_check_history of wq_pure.h, which frees
- * it before it returns. No call is for a signal handler, or for the forked child of a process with threads.
+ * start or join, a lock, or a sequentially consistent atomic (the default of C11's atomic_store and atomic_load); different seats of
+ * one queue need nothing. No call waits, takes a lock, or starts a thread; only wq_build takes memory, which the release of a queue's
+ * last seat frees, and wq_check_history of wq_pure.h, which frees it before it returns. No call is for a signal handler, or for the
+ * forked child of a process with threads.
  */
 #ifndef WQ_H
 #define WQ_H
@@ -45,9 +46,9 @@ enum wq_code {
     WQ_PENDING = 8,
     WQ_CLOSED = 9,     /* the queue is closed */
     WQ_DRAINING = 10,  /* the queue was seen draining */
-    WQ_CONTENDED = 11, /* other seats changed the list at each try */
+    WQ_CONTENDED = 11, /* other seats changed the head of the list at each try */
     WQ_NO = 12, WQ_YES = 13,
-    /* Errors, after which nothing has changed: of the seat, */
+    /* Errors, after which nothing has changed, but after WQ_SEAT_SIZE: of the seat, */
     WQ_NOT_SENDER = 64, WQ_NOT_OWNER = 65,
     /* of the arguments, */
     WQ_NO_ITEM = 66, WQ_NO_BARRIER = 67, WQ_NO_TRIES = 68,

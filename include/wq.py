@@ -53,7 +53,7 @@ class Code(enum.IntEnum):
 
 
 class Error(enum.IntEnum):
-    """Why a call was refused."""
+    """Why a call was refused. It is the `code` of the exception, which is WqError."""
     (NOT_SENDER, NOT_OWNER, NO_ITEM, NO_BARRIER, NO_TRIES, IS_CLOSED, IS_DRAINING, NOT_DRAINING, IS_OPEN, SOME_WAIT, NONE_WAITS, IS_RUNNING,
      NONE_RUNS, IN_USE, NO_SENDER, NOT_DONE, MEMORY, ITEMS, BARRIERS, SENDERS) = range(64, 84)
 
