@@ -4,32 +4,33 @@ use Rattle.wq_live.proofs.Common.{length-append, subst, Event, Hold, Back, seat_
 use Rattle.wq_words.specs.declared.event.Why.TheVariants as why
 use Rattle.wq_words.specs.Seen.{others}
 
--- where a seat made one event, no other of its events stands before or behind it
-record IsSplit (s : ℕ) (e : Event) (es : List Event) : Type 0 where
-  front : List Event
-  back : List Event
-  is : es ≡ front ++ e ∷ back
-  none_before : own s front ≡ []
-  none_behind : own s back ≡ []
+-- where these are the events that a seat made, none of them stands before the first, and the others stand behind it
+pub record IsSplit (s : ℕ) (e : Event) (more es : List Event) : Type 0 where
+  pub front : List Event
+  pub back : List Event
+  pub is : es ≡ front ++ e ∷ back
+  pub none_before : own s front ≡ []
+  pub behind : own s back ≡ more
 
-split_one : (s : ℕ) (e : Event) (es : List Event) → own s es ≡ e ∷ [] → IsSplit s e es
-split_one s e [] is = absurd (cc)
-split_one s e (x ∷ xs) is = go (seat_of x == s) refl (split_one s e xs) is
+pub split_first : (s : ℕ) (e : Event) (more es : List Event) → own s es ≡ e ∷ more → IsSplit s e more es
+split_first s e more [] is = absurd (cc)
+split_first s e more (x ∷ xs) is = go (seat_of x == s) refl (split_first s e more xs) is
   where
-    go : (b : Bool) → (seat_of x == s) ≡ b → (own s xs ≡ e ∷ [] → IsSplit s e xs) → cond b (x ∷ own s xs) (own s xs) ≡ e ∷ [] → IsSplit s e (x ∷ xs)
-    go true mine rest one = let same : x ≡ e = cc in let none : own s xs ≡ [] = cc in record {
+    go : (b : Bool) → (seat_of x == s) ≡ b → (own s xs ≡ e ∷ more → IsSplit s e more xs) → cond b (x ∷ own s xs) (own s xs) ≡ e ∷ more
+        → IsSplit s e more (x ∷ xs)
+    go true mine rest one = let same : x ≡ e = cc in let others_are : own s xs ≡ more = cc in record {
       front = [];
       back = xs;
       is = ap (λ (y : Event). y ∷ xs) same;
       none_before = refl;
-      none_behind = none;
+      behind = others_are;
     }
     go false other rest one = let r = rest one in record {
       front = x ∷ r.front;
       back = r.back;
       is = ap (λ (ys : List Event). x ∷ ys) r.is;
       none_before = ap (λ (b : Bool). cond b (x ∷ own s r.front) (own s r.front)) other ∙ r.none_before;
-      none_behind = r.none_behind;
+      behind = r.behind;
     }
 
 others-length : (s : ℕ) (es : List Event) → length (others s es) ≤ length es
@@ -47,7 +48,7 @@ in_a_row v f b p g z x y = simp append_assoc refl
 pub contended_since : (s k n : ℕ) (v a b w : List Event) → Grows s (Hold s k ∷ []) 0 v a → Grows s [] n a b
     → Grows s (Back s k why.Contended ∷ []) 0 b w → IsContended s k n w
 contended_since s k n v a b w held lost gave =
-    let hold = split_one s (Hold s k) held.new held.mine in let back = split_one s (Back s k why.Contended) gave.new gave.mine in
+    let hold = split_first s (Hold s k) [] held.new held.mine in let back = split_first s (Back s k why.Contended) [] gave.new gave.mine in
     let between = hold.back ++ (lost.new ++ back.front) in
     let upto : b ≡ (v ++ (hold.front ++ Hold s k ∷ hold.back)) ++ lost.new =
     lost.is ∙ ap (λ (x : List Event). x ++ lost.new) (held.is ∙ ap (λ (x : List Event). v ++ x) hold.is) in record {
@@ -56,8 +57,8 @@ contended_since s k n v a b w held lost gave =
       after = back.back;
       is = gave.is ∙ ((λ i. upto i ++ back.is i) ∙ in_a_row v hold.front hold.back lost.new back.front back.back (Hold s k) (Back s k why.Contended));
       none_between = own-append s hold.back (lost.new ++ back.front) ∙
-          (λ i. hold.none_behind i ++ (own-append s lost.new back.front ∙ (λ j. lost.mine j ++ back.none_before j)) i);
-      last = back.none_behind;
+          (λ i. hold.behind i ++ (own-append s lost.new back.front ∙ (λ j. lost.mine j ++ back.none_before j)) i);
+      last = back.behind;
       paid = omega (arith, lost.theirs, others-length s lost.new, length-append hold.back (lost.new ++ back.front), length-append lost.new back.front);
     }
 

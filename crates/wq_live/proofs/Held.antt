@@ -5,7 +5,7 @@ use Rattle.std.proofs.Common.{◌&&◌}
 use Rattle.wq_words.specs.declared.answer.Answer.TheVariants as answer
 use Rattle.wq_words.specs.declared.answer.Posted.TheVariants as posted
 use Rattle.wq_words.specs.declared.event.Why.TheVariants as why
-use Rattle.wq_live.proofs.Common.{eq-eqb, IsLegal, kept, legal_front}
+use Rattle.wq_live.proofs.Common.{eq-eqb, IsLegal, kept, legal_front, ◌++◌, ◌∙◌, append_assoc, Grows, own-append, own_one}
 use Rattle.wq_words.specs.History.{starts_hold, stops_hold}
 use Rattle.wq_words.specs.Keeper.{Keeper, keeper}
 use Rattle.wq_words.specs.Keeper.Keeper.{Sender}
@@ -13,6 +13,7 @@ use Rattle.wq_words.proofs.Keepers.{held_bit}
 use Rattle.wq_words.proofs.Seen.{starts_own, stops_own}
 use Rattle.wq_live.proofs.Counting.{count_on, count_one}
 use Rattle.wq_live.proofs.Sends.{sees_held}
+use Rattle.wq_live.proofs.Contended.{split_first}
 
 -- it stays held where the own events that come stop no more holds of it than they start
 held_on : (k n : ℕ) (xs : List Event) (s t : Known) → Sees xs n s t
@@ -164,3 +165,42 @@ posted_stops k tries (posted.Queued first wakes) s t told lost drained = pushed_
 posted_stops k tries posted.Closed s t told lost drained = given_stops k 0 why.Closed s t told
 posted_stops k tries posted.Draining s t told lost drained = absurd (drained refl)
 posted_stops k tries posted.Contended s t told lost drained = absurd (lost refl)
+
+-- what a sender takes hold of it did not hold before
+hold_unheld : (k n : ℕ) (more : List Event) (s t : Known) → Sees (Hold s.number k ∷ more) n s t → ¬ Holds s.seen s.number k
+hold_unheld k n more s t sees =
+    let c = s.number in let split = split_first c (Hold c k) more sees.grows.new sees.grows.mine in
+    let upto = s.seen ++ (split.front ++ Hold c k ∷ []) in
+    let in_row : s.seen ++ (split.front ++ Hold c k ∷ split.back) ≡ upto ++ split.back = simp append_assoc refl in
+    let whole : t.seen ≡ upto ++ split.back = sees.grows.is ∙ (ap (λ (x : List Event). s.seen ++ x) split.is ∙ in_row) in
+    let front = legal_front t.layout upto split.back (subst (IsLegal t.layout) whole sees.legal) in
+    let grows : Grows c (Hold c k ∷ []) 0 s.seen upto = record {
+      new = split.front ++ Hold c k ∷ [];
+      is = refl;
+      mine = own-append c split.front (Hold c k ∷ []) ∙ (λ i. split.none_before i ++ own_one c (Hold c k) refl i);
+      theirs = omega arith;
+    } in
+    let starts = count_on (starts_hold c k) c (starts_own c k) (Hold c k ∷ []) 0 s.seen upto grows in
+    let stops = count_on (stops_hold c k) c (stops_own c k) (Hold c k ∷ []) 0 s.seen upto grows in
+    let once = (kept t.layout upto front c k).0 in
+    λ have. omega (
+      arith,
+      starts,
+      stops,
+      count_one (starts_hold c k) (Hold c k) true (λ i. eq-eqb k k refl i && eq-eqb c c refl i),
+      count_one (stops_hold c k) (Hold c k) false refl,
+      once,
+      held_once c (keeper upto k),
+      have,
+    )
+
+pub queued_stops : (k tries : ℕ) (a : Answer) (s t : Known) → Answers k tries a s t → a ≢ answer.Pending → ¬ Holds t.seen t.number k
+queued_stops k tries answer.Pending s t told held = absurd (held refl)
+queued_stops k tries (answer.Queued first wakes) s t told held =
+    queued_unheld k k tries (answer.Queued first wakes) s t told (hold_unheld k 0 (Push s.number k ∷ []) s t told.0)
+queued_stops k tries answer.Closed s t told held =
+    queued_unheld k k tries answer.Closed s t told (hold_unheld k 0 (Back s.number k why.Closed ∷ []) s t told)
+queued_stops k tries answer.Draining s t told held =
+    queued_unheld k k tries answer.Draining s t told (hold_unheld k 0 (Back s.number k why.Draining ∷ []) s t told.0)
+queued_stops k tries answer.Contended s t told held =
+    queued_unheld k k tries answer.Contended s t told (hold_unheld k tries (Back s.number k why.Contended ∷ []) s t told)

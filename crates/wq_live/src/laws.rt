@@ -98,9 +98,11 @@ pub fn unheld_stays()
         → ¬ Holds old.seen old.number k → ¬ Holds new.seen new.number k }
 {}
 
-/// What a sender has pushed or given back it holds no longer.
+/// What a sender has pushed or given back it holds no longer, and so after a queueing that is not answered Pending.
 pub fn no_longer_held()
     ensures posted { (k tries : ℕ) (a : Posted) (old new : Known) → Posts k tries a old new → a ≢ posted.Contended → a ≢ posted.Draining
+        → ¬ Holds new.seen new.number k }
+    ensures queued { (k tries : ℕ) (a : Answer) (old new : Known) → Answers k tries a old new → a ≢ answer.Pending
         → ¬ Holds new.seen new.number k }
     ensures given { (k n : ℕ) (why : Why) (old new : Known) → Sees (Back old.number k why ∷ []) n old new → ¬ Holds new.seen new.number k }
 {}
