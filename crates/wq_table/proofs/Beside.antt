@@ -3,7 +3,12 @@ use Rattle.wq_table.proofs.Common.{◌≡◌, ℕ, List, [], ◌∷◌, inr, ⊎
 use Rattle.wq_table.proofs.Common.{IsPartOf, see, all_see, AllOf, chosen, besides, part_at}
 use Rattle.wq_words.proofs.Prefixes.{prefix_on}
 use Rattle.wq_table.specs.Chair.{Standing, besides_at, Steps}
-use Rattle.wq_table.specs.Beside.{Follow, Beside}
+use Rattle.std.specs.Prelude.{◌⊎◌}
+use Rattle.wq_table.specs.Beside.{Follow}
+
+-- it made steps, or none
+abbrev pub Beside : ℕ → Standing → Standing → Type 0
+Beside at old new = (new ≡ old) ⊎ Follow at old new
 
 -- one step
 pub follow_step : (at : ℕ) (step : Step) (word : ℕ) (old new : Standing) → Steps at step word old new → Follow at old new

@@ -4,10 +4,10 @@ use Rattle.wq_table.proofs.Common.{accepted, AreBrought, Layout, Step, Machine, 
 use Rattle.wq_table.proofs.Common.{AllTold, ValueStanding, standing_of, ValueSteps}
 use Rattle.wq_table.specs.Chair.{SeatedIn}
 use Rattle.wq_table.specs.SlotChairs.{knowing, ValueMeet, ValueMeetAll}
-use Rattle.wq_table.specs.Beside.{Beside, Learns, LearnsOrStays}
+use Rattle.wq_table.specs.Beside.{Learns, LearnsOrStays}
 use Rattle.wq_table.proofs.Places.{seeing_seen}
 use Rattle.wq_table.proofs.ValueRule.{all_more, plain_telling, told_all}
-use Rattle.wq_table.proofs.Beside.{follow_step, follow_on}
+use Rattle.wq_table.proofs.Beside.{Beside, follow_step, follow_on}
 
 module _ {V : Type 0} where
   -- one step

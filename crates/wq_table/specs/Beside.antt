@@ -20,10 +20,6 @@ pub record Follow (at : ℕ) (old new : Standing) : Type 0 where
   pub fit : AllOf machine (besides_at at old)
   pub others_are : besides_at at new ≡ all_see machine.history (besides_at at old)
 
--- it made steps, or none
-abbrev pub Beside : ℕ → Standing → Standing → Type 0
-Beside at old new = (new ≡ old) ⊎ Follow at old new
-
 -- The part at this place made steps, and the others follow. All parts had been told a beginning of what is brought now, and have
 -- then been told all of it.
 pub record Learns {V : Type 0} (at : ℕ) (old new : ValueStanding V) : Type 0 where
