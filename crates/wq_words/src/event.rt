@@ -74,9 +74,9 @@ impl Event {
         }
     }
 
-    // The number that ends with it.
-    pub(crate) fn ended_number(self) -> Option<u32>
-        ensures { result ≡ ended_by self }
+    /// The number whose execution ends with it.
+    pub fn ended_number(self) -> Option<u32>
+        ensures ended { result ≡ ended_by self }
     {
         match self {
             Event::End(number) => Some(number),
@@ -148,9 +148,9 @@ impl Event {
         matches!(self, Event::Resume)
     }
 
-    // Whether its sender, if it has one, is one of the queue's.
-    pub(crate) fn has_seat(self, layout: &Layout) -> bool
-        ensures { IsTrue result ↔ HasSeat layout.now self }
+    /// Whether its sender, if it has one, is one of the queue's.
+    pub fn has_seat(self, layout: &Layout) -> bool
+        ensures seat { IsTrue result ↔ HasSeat layout.now self }
     {
         match self {
             Event::Hold(sender, _)
@@ -161,9 +161,9 @@ impl Event {
         }
     }
 
-    // Whether its number, if it has one, is one of the queue's, and an item where it is chained.
-    pub(crate) fn has_number(self, layout: &Layout) -> bool
-        ensures { IsTrue result ↔ HasNumber layout.now self }
+    /// Whether its number, if it has one, is one of the queue's, and an item where it is chained.
+    pub fn has_number(self, layout: &Layout) -> bool
+        ensures number { IsTrue result ↔ HasNumber layout.now self }
     {
         let count = layout.number_count();
         match self {
