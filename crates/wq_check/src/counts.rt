@@ -1,7 +1,6 @@
 //! What is counted of a history.
-ghost use Rattle.std.specs.Prelude.{◌≡◌, ◌∷◌, ◌++◌, [], ◌+◌, ℕ, List, length, is_some, cond};
+ghost use Rattle.std.specs.Prelude.{◌≡◌, ◌∷◌, ◌++◌, [], ◌+◌, ℕ, List, length, cond};
 ghost use Rattle.wq_words.specs.declared.event.Event.{Event};
-ghost use Rattle.wq_words.specs.History.{ended_by};
 ghost use Rattle.wq_words.specs.Counting.{capped, is_chain, is_busy, is_refusal};
 ghost use Rattle.wq_check.specs.Left.{unbegun};
 ghost use Rattle.wq_check.specs.Report.{event_counts};
@@ -60,15 +59,6 @@ fn is_chain(event: Event) -> bool
     }
 }
 
-fn is_end(event: Event) -> bool
-    ensures { result ≡ is_some (ended_by event) }
-{
-    match event {
-        Event::End(_) => true,
-        _ => false,
-    }
-}
-
 fn is_busy(event: Event) -> bool
     ensures { result ≡ is_busy event }
 {
@@ -111,7 +101,7 @@ impl Counts {
             events: counted(self.events, true),
             accepted: counted(self.accepted, event.accepted_number().is_some()),
             chained: counted(self.chained, is_chain(event)),
-            executed: counted(self.executed, is_end(event)),
+            executed: counted(self.executed, event.ended_number().is_some()),
             busy: counted(self.busy, is_busy(event)),
             refused: counted(self.refused, is_refusal(event)),
             most_waiting: self.most_waiting.max(waiting_count),

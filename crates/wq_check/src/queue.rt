@@ -3,7 +3,7 @@ ghost use Rattle.std.specs.Prelude.{◌≡◌, ◌↔◌, ◌<◌, List, ◌++�
 ghost use Rattle.wq_words.specs.declared.event.Event.{Event};
 ghost use Rattle.wq_words.specs.declared.event.Event.TheVariants as event;
 ghost use Rattle.wq_words.specs.History.{IsPending, Holds, IsDraining};
-ghost use Rattle.wq_words.specs.Legal.{HasSeat, HasNumber, IsAllowed};
+ghost use Rattle.wq_words.specs.Legal.{HasNumber, IsAllowed};
 ghost use Rattle.wq_words.specs.Numbers.{number_count};
 ghost use Rattle.wq_check.specs.declared.queue.Place.TheVariants.{Idle};
 ghost use Rattle.wq_check.specs.Causes.{HasEventError};
@@ -54,36 +54,6 @@ impl Model for Queue {
     // there is room for all numbers to wait
     ghost invariant = { λ q. (q.waiting.capacity ≡ number_count q.layout)
         × ((h : List Event) × StandsAfter (queue_state q.layout q.places.items q.waiting.items q.running q.closed q.shut q.has_drained) h) };
-}
-
-// Whether its sender, if it has one, is one of the queue's.
-fn has_seat(layout: &Layout, event: Event) -> bool
-    ensures { IsTrue result ↔ HasSeat layout.now event }
-{
-    match event {
-        Event::Hold(sender, _)
-        | Event::Busy(sender, _)
-        | Event::Push(sender, _)
-        | Event::Back(sender, _, _) => sender < layout.senders,
-        _ => true,
-    }
-}
-
-// Whether its number, if it has one, is one of the queue's, and an item where it is chained.
-fn has_number(layout: &Layout, event: Event) -> bool
-    ensures { IsTrue result ↔ HasNumber layout.now event }
-{
-    let count = layout.number_count();
-    match event {
-        Event::Hold(_, number)
-        | Event::Busy(_, number)
-        | Event::Push(_, number)
-        | Event::Back(_, number, _)
-        | Event::Begin(number)
-        | Event::End(number) => number < count,
-        Event::Chain(number) | Event::ChainBusy(number) => number < layout.items,
-        Event::Take | Event::Close | Event::Drain | Event::Resume | Event::Rest => true,
-    }
 }
 
 impl Queue {
@@ -306,10 +276,10 @@ impl Queue {
         ensures refused { IfErr result (λ error. (h : List Event) → StandsAfter self.now h
             → HasEventError self.now.layout h event error) }
     {
-        if !has_seat(&self.layout, event) {
+        if !event.has_seat(&self.layout) {
             return Err(EventError::NoSeat);
         }
-        if !has_number(&self.layout, event) {
+        if !event.has_number(&self.layout) {
             return Err(EventError::NoItem);
         }
         if let Some(cause) = self.cause(event) {

@@ -21,7 +21,8 @@ returns c = λ h is fits.
     ∙ (ap (λ b. capped (count_by is_chain h + cond b 1 0)) c.is_chain.ensures ∙ ap capped (sym (count_by_push is_chain h e))) in
     let executed : c.counted-4.result ≡ capped (length (ended (h ++ e ∷ []))) =
     c.counted-4.ensures (length (ended h)) (ap (λ x. x.executed) is)
-    ∙ (ap (λ b. capped (length (ended h) + cond b 1 0)) c.is_end.ensures ∙ ap capped (mapped_push ended_by h e)) in
+    ∙ (ap (λ b. capped (length (ended h) + cond b 1 0)) (c.is_some-2.ensures ∙ ap is_some c.ended_number.ensures.ended)
+    ∙ ap capped (mapped_push ended_by h e)) in
     let busy : c.counted-5.result ≡ capped (count_by is_busy (h ++ e ∷ [])) =
     c.counted-5.ensures (count_by is_busy h) (ap (λ x. x.busy) is)
     ∙ (ap (λ b. capped (count_by is_busy h + cond b 1 0)) c.is_busy.ensures ∙ ap capped (sym (count_by_push is_busy h e))) in
