@@ -63,12 +63,12 @@ impl Promise<Worker<Idle>> for Serves {
 /// The thread of the worker, where one could be made.
 pub type Serving = Option<PromisedHandle<Worker<Idle>, Serves>>;
 
-/// Queues an item, and wakes the worker where it was queued.
+/// Queues an item, and wakes the worker where it is the first on an empty list: a worker that serves takes the rest with it.
 pub fn queue_item<R: Wait>(rt: &R, sender: &mut Sender, item: u32, unparker: &Unparker)
     requires { item < sender.old.layout.items }
     ensures { HasQueued (item ∷ []) sender.old sender.new }
 {
-    if let Answer::Queued { .. } = sender.queue(rt, item) {
+    if let Answer::Queued { first: true, .. } = sender.queue(rt, item) {
         unparker.unpark();
     }
 }

@@ -1,8 +1,12 @@
 use Rattle.wq_plan.proofs.Queueing.{queued_one}
 use Rattle.wq_plan.proofs.race.queue_item.Goals as goal
 
-pub returns-in-Queued : goal.returns-in-Queued
-returns-in-Queued g c = queued_one c.args.item c.queue.result c.args.sender.now c.queue.new.self c.queue.ensures.answer c.queue.ensures.settled
+pub returns-in-Queued-true-default : goal.returns-in-Queued-true-default
+returns-in-Queued-true-default g c =
+    queued_one c.args.item c.queue.result c.args.sender.now c.queue.new.self c.queue.ensures.answer c.queue.ensures.settled
 
-pub returns-in_default : goal.returns-in_default
-returns-in_default g c = queued_one c.args.item c.queue.result c.args.sender.now c.queue.new.self c.queue.ensures.answer c.queue.ensures.settled
+pub returns : goal.returns
+returns g c = queued_one c.args.item c.queue.result c.args.sender.now c.queue.new.self c.queue.ensures.answer c.queue.ensures.settled
+
+pub returns-else-queue : goal.returns-else-queue
+returns-else-queue g c = queued_one c.args.item c.queue.result c.args.sender.now c.queue.new.self c.queue.ensures.answer c.queue.ensures.settled
