@@ -5,7 +5,7 @@ use Rattle.wq_plan.proofs.Common.{IsPrefix, Event, IsTold}
 use Rattle.wq_live.proofs.Counting.{counts_none}
 
 pub heard_still : (b : BookState) → HasHeard b b
-heard_still b = record { queue_is = refl; layout_is = refl; own_is = refl; begins = ([], append-nil b.seen); idle = refl }
+heard_still b = record { queue_is = refl; layout_is = refl; own_is = refl; begins = ([], append-nil b.seen); untouched = refl }
 
 pub heard_one : (a b : BookState) → (b.queue ≡ a.queue) × (b.layout ≡ a.layout) × (b.own ≡ a.own) → Grows owner_seat [] 0 a.seen b.seen → HasHeard a b
 heard_one a b same g = record {
@@ -13,7 +13,7 @@ heard_one a b same g = record {
   layout_is = same.1;
   own_is = same.2;
   begins = (g.new, sym g.is);
-  idle = grows_same owner_seat 0 a.seen b.seen g;
+  untouched = grows_same owner_seat 0 a.seen b.seen g;
 }
 
 pub heard_on : (a b c : BookState) → HasHeard a b → HasHeard b c → HasHeard a c
@@ -22,7 +22,7 @@ heard_on a b c x y = record {
   layout_is = y.layout_is ∙ x.layout_is;
   own_is = y.own_is ∙ x.own_is;
   begins = prefix_on a.seen b.seen c.seen x.begins y.begins;
-  idle = y.idle ∙ x.idle;
+  untouched = y.untouched ∙ x.untouched;
 }
 
 -- a sender that made no event has the ledger that it had

@@ -93,8 +93,8 @@ module _ (plan : Plan) (team : Team) (w : WorkerState Idle) (senders : List Know
         told = heard;
         queued = subst (λ (es : List Event). SendsAll s (items_at s plan.own) es) (sym (heard ∙ before)) first.queued;
         opens = λ j cause refusal has.
-            never_refused now.layout s j cause now.seen w.seen refusal k.legal k.known (closed_count team.worker.seen w.seen o.met.idle ∙ o.run.unclosed)
-            (count_same is_drain owner_seat drains_own team.worker.seen w.seen o.met.idle ∙ o.run.undrained)
+            never_refused now.layout s j cause now.seen w.seen refusal k.legal k.known (closed_count team.worker.seen w.seen o.met.untouched ∙ o.run.unclosed)
+            (count_same is_drain owner_seat drains_own team.worker.seen w.seen o.met.untouched ∙ o.run.undrained)
             (own_has s (Back s j cause) now.seen (subst (λ (es : List Event). Has (Back s j cause) es) heard has));
       }
 
@@ -124,7 +124,7 @@ module _ (plan : Plan) (team : Team) (w : WorkerState Idle) (senders : List Know
           legal = legal;
           queued = λ s lt. (sender_at s nobody lt).queued;
           unpushed = queued_own plan.senders book.seen ∙ ap (count_by (is_queued_by plan.senders)) none;
-          unchained = o.ended.quiet.unchained ∙ (chains_same team.worker.seen w.seen o.met.idle ∙ o.run.unchained);
+          unchained = o.ended.quiet.unchained ∙ (chains_same team.worker.seen w.seen o.met.untouched ∙ o.run.unchained);
           stops = all_front (IsOfStop team.worker.layout) (own (plan.senders + 1) book.seen) (own (plan.senders + 1) later)
               (subst (AllByRecursion (IsOfStop team.worker.layout)) (sym program_parts) o.run.stops);
         };
@@ -236,10 +236,10 @@ module _ (plan : Plan) (team : Team) (w : WorkerState Idle) (senders : List Know
           λ (i : s ≡ n). not (i ∙ (sym number ∙ sym (ap (λ (l : LedgerState). l.number) heard.own_is))),
         ) in subst (HasOne ledgers) is stopper
       ] in
-      let chains : count_by is_chain last.seen ≡ 0 = chains_same book.seen last.seen heard.idle ∙ is_race.shared.unchained in
-      let asks : count_by is_chain_busy last.seen ≡ 0 = asks_same book.seen last.seen heard.idle
-      ∙ (o.ended.quiet.unasked ∙ (asks_same team.worker.seen w.seen o.met.idle ∙ o.run.unasked)) in
-      let ends : length (ended last.seen) ≡ length (ended book.seen) = ap (length {A = ℕ}) (ended_same book.seen last.seen heard.idle) in
+      let chains : count_by is_chain last.seen ≡ 0 = chains_same book.seen last.seen heard.untouched ∙ is_race.shared.unchained in
+      let asks : count_by is_chain_busy last.seen ≡ 0 = asks_same book.seen last.seen heard.untouched
+      ∙ (o.ended.quiet.unasked ∙ (asks_same team.worker.seen w.seen o.met.untouched ∙ o.run.unasked)) in
+      let ends : length (ended last.seen) ≡ length (ended book.seen) = ap (length {A = ℕ}) (ended_same book.seen last.seen heard.untouched) in
       let owners : AreOwnerWhole (owner_counts last.seen) = (
         (λ is. omega (arith, is, chains)),
         (λ is. omega (arith, is, asks)),
@@ -255,7 +255,7 @@ module _ (plan : Plan) (team : Team) (w : WorkerState Idle) (senders : List Know
     number_is = ap (λ (l : LedgerState). l.number) heard.own_is ∙ (o.ended.number_is ∙ o.met.same.number_is);
     own_made = subst (IsLedgerOf book.seen) (sym heard.own_is) o.ended.made;
     heard = heard.begins;
-    idle = heard.idle;
+    untouched = heard.untouched;
     legal = o.settled.legal;
     complete = o.settled.complete;
   }

@@ -3,7 +3,7 @@ use Rattle.wq_plan.proofs.Common.{◌≡◌, ℕ, List, [], refl, sym, ◌∙◌
 use Rattle.wq_plan.proofs.Common.{Moves, Idle, HasMet, IsKnown, prefix_on, grows_same, own_more, none_of, worker_still, worker_on, moves_same, prefix_self}
 
 pub met_still : (a : WorkerState Idle) → IsLegal a.layout a.seen → HasMet a a
-met_still a legal = record { same = worker_still a; begins = prefix_self a.seen; unsent = refl; idle = refl; legal = legal }
+met_still a legal = record { same = worker_still a; begins = prefix_self a.seen; unsent = refl; untouched = refl; legal = legal }
 
 pub met_more : (a b c : WorkerState Idle) → HasMet a b → Moves [] 0 b c → HasMet a c
 met_more a b c x m =
@@ -13,7 +13,7 @@ met_more a b c x m =
       same = worker_on a b c x.same (moves_same [] 0 b c m);
       begins = prefix_on a.seen b.seen c.seen x.begins (m.adds.new, sym m.adds.is);
       unsent = subst (λ (s : ℕ). own s c.seen ≡ own s b.seen) x.same.number_is mine ∙ x.unsent;
-      idle = own_more owner_seat b.seen m.adds.new c.seen m.adds.is none.1 ∙ x.idle;
+      untouched = own_more owner_seat b.seen m.adds.new c.seen m.adds.is none.1 ∙ x.untouched;
       legal = m.legal;
     }
 

@@ -41,7 +41,7 @@ pub record IsBookAfter (worker : WorkerState Idle) (history : List Event) (book 
   pub number_is : book.own.number ≡ worker.number
   pub own_made : IsLedgerOf history book.own
   pub heard : IsPrefix history book.seen
-  pub idle : own owner_seat book.seen ≡ own owner_seat history
+  pub untouched : own owner_seat book.seen ≡ own owner_seat history
   pub legal : IsLegal book.layout book.seen
   pub complete : IsComplete book.seen
 
@@ -82,7 +82,7 @@ pub record HasMet (old new : WorkerState Idle) : Type 0 where
   pub same : IsSameWorker old new
   pub begins : IsPrefix old.seen new.seen
   pub unsent : own old.number new.seen ≡ own old.number old.seen
-  pub idle : own owner_seat new.seen ≡ own owner_seat old.seen
+  pub untouched : own owner_seat new.seen ≡ own owner_seat old.seen
   pub legal : IsLegal new.layout new.seen
 
 -- the same sender, which made no event, and has seen no more than this
@@ -129,7 +129,7 @@ pub record HasHeard (old new : BookState) : Type 0 where
   pub layout_is : new.layout ≡ old.layout
   pub own_is : new.own ≡ old.own
   pub begins : IsPrefix old.seen new.seen
-  pub idle : own owner_seat new.seen ≡ own owner_seat old.seen
+  pub untouched : own owner_seat new.seen ≡ own owner_seat old.seen
 
 -- a book that met these senders and then the program's, and in the end has the ledgers of all of them
 pub record HasSettled (book : BookState) (senders : List Known) (program : Known) (last : BookState) (ledgers : List LedgerState) : Type 0 where

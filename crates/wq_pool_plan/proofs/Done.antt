@@ -257,7 +257,7 @@ module _ (plan : Plan) (id : WorkerId) (work : Idle) (before book last : BookSta
     book_layout = book_layout;
     book_legal = o.last_legal;
     book_complete = o.last_complete;
-    book_idle = o.heard.idle;
+    book_untouched = o.heard.untouched;
     own_number = own_number;
     own_made = subst (IsLedgerOf book.seen) (sym o.heard.own_is) o.own_made;
     made = made;

@@ -61,7 +61,7 @@ pub record IsQueueRun (plan : Plan) (run : QueueRun) : Type 0 where
   pub book_layout : run.book.layout ≡ run.layout
   pub book_legal : IsLegal run.book.layout run.book.seen
   pub book_complete : IsComplete run.book.seen
-  pub book_idle : own owner_seat run.book.seen ≡ own owner_seat run.history
+  pub book_untouched : own owner_seat run.book.seen ≡ own owner_seat run.history
   pub own_number : run.book.own.number ≡ plan.senders
   pub own_made : IsLedgerOf run.history run.book.own
   pub made : All (IsLedgerOf run.book.seen) run.ledgers

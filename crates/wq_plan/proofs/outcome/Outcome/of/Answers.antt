@@ -8,7 +8,7 @@ use Rattle.wq_plan.proofs.outcome.Outcome.of.Goals as goal
 
 pub destroy-work-requires-clause-idle : goal.destroy-work-requires-clause-idle
 destroy-work-requires-clause-idle g c = λ runs. c.requires.run.1.idle
-    (running_same c.meet_senders.new.worker.seen c.args.team.worker.seen (sym c.meet_senders.ensures.worker.idle) runs)
+    (running_same c.meet_senders.new.worker.seen c.args.team.worker.seen (sym c.meet_senders.ensures.worker.untouched) runs)
 
 pub is_balanced-is_balanced-requires : goal.is_balanced-is_balanced-requires
 is_balanced-is_balanced-requires g c = subst (All (IsLedgerOf c.in_ok-book.book.seen)) (sym c.deref-2.ensures.value) c.in_ok-book.ensures.made
