@@ -99,7 +99,7 @@ pub record HasServed (old new : WorkerState Idle) : Type 0 where
 -- each of these threads was given the sender at its place, and how many items are its own
 abbrev pub AreThreads : ℕ → List Known → List (PromisedHandle Sender QueuesOwn) → Type 0
 AreThreads own senders threads = (i : ℕ) (d : PromisedHandle Sender QueuesOwn) (e : Known) → i < length threads →
-    ((slice_index_or threads i d).promise.0.value ≡ slice_index_or senders i e) × ((slice_index_or threads i d).promise.1 ≡ own)
+    ((slice_index_or threads i d).promise.sender.value ≡ slice_index_or senders i e) × ((slice_index_or threads i d).promise.own ≡ own)
 
 -- each of these senders queued its own items
 pub record AllQueued (own : ℕ) (olds news : List Known) : Type 0 where

@@ -46,10 +46,13 @@ impl From<BuildError> for RaceError {
 
 /// A thread gives back the sender that it was given, which has queued its own items: so many.
 #[derive(Drop)]
-struct QueuesOwn(Snapshot<Sender>, u32);
+struct QueuesOwn {
+    sender: Snapshot<Sender>,
+    own: u32,
+}
 
 impl Promise<Sender> for QueuesOwn {
-    ghost kept_by = { λ given back. HasQueued (items_at given.0.value.number given.1) given.0.value back };
+    ghost kept_by = { λ given back. HasQueued (items_at given.sender.value.number given.own) given.sender.value back };
 }
 
 /// A thread gives back the worker that it was given, which has served.
@@ -145,9 +148,12 @@ fn start_sender<'s, E, R: Wait + Sync>(
     unparker: Unparker,
 ) -> Option<PromisedHandle<Sender, QueuesOwn>>
     requires { sender.number * own + own ≤ sender.layout.items }
-    ensures { IfSome result (λ handle. (handle.promise.0.value ≡ sender) × (handle.promise.1 ≡ own)) }
+    ensures { IfSome result (λ handle. (handle.promise.sender.value ≡ sender) × (handle.promise.own ≡ own)) }
 {
-    let given = QueuesOwn(Snapshot::of(&sender), own);
+    let given = QueuesOwn {
+        sender: Snapshot::of(&sender),
+        own,
+    };
     scope
         .spawn_with(
             given,

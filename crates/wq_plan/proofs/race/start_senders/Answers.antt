@@ -11,7 +11,7 @@ loop-sender-preserved g c =
     let xs = l.handles.items in let h = c.in-Some-start_sender.handle in let all = c.args.senders.items in
     let kept = c.if-not-keep_handle.ensures.kept in
     let P : ℕ → PromisedHandle Sender QueuesOwn → Type 0 = λ k handle. (e : Known)
-    → (handle.promise.0.value ≡ get_or all k e) × (handle.promise.1 ≡ c.args.own) in
+    → (handle.promise.sender.value ≡ get_or all k e) × (handle.promise.own ≡ c.args.own) in
     let here : P (length xs) h = λ e.
     let at : get_or all (length l.yielded) c.in-Some.sender ≡ get_or all (length l.yielded) e = get_or_default all
     (length l.yielded) c.in-Some.sender e turn.0 in
@@ -25,6 +25,6 @@ loop-sender-preserved g c =
 pub returns-then-not-keep_handle-clause-given : goal.returns-then-not-keep_handle-clause-given
 returns-then-not-keep_handle-clause-given g c = λ k d e lt.
     let kept = c.if-not-keep_handle.ensures.kept in
-    subst (λ (hs : List (PromisedHandle Sender QueuesOwn)). ((get_or hs k d).promise.0.value ≡ get_or c.args.senders.items k e)
-    × ((get_or hs k d).promise.1 ≡ c.args.own)) (sym kept)
+    subst (λ (hs : List (PromisedHandle Sender QueuesOwn)). ((get_or hs k d).promise.sender.value ≡ get_or c.args.senders.items k e)
+    × ((get_or hs k d).promise.own ≡ c.args.own)) (sym kept)
     (c.loop-sender.invariant.given k d e (omega (arith, lt, ap length kept)))

@@ -6,5 +6,5 @@ abbrev pub invariant-loop-sender : goal.invariant-loop-sender
 invariant-loop-sender g l = record {
   count : length l.handles.items ≡ length l.yielded;
   given : (i : ℕ) (d : PromisedHandle Sender QueuesOwn) (e : Known) → i < length l.handles.items
-      → ((get_or l.handles.items i d).promise.0.value ≡ get_or l.fn.senders.items i e) × ((get_or l.handles.items i d).promise.1 ≡ l.fn.own);
+      → ((get_or l.handles.items i d).promise.sender.value ≡ get_or l.fn.senders.items i e) × ((get_or l.handles.items i d).promise.own ≡ l.fn.own);
 }
