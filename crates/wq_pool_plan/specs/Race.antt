@@ -42,7 +42,7 @@ pub record MayRun {K : Type 0} (own_items : ℕ) (pool : PoolState K) (callers :
 -- each of these threads was given the group at its place, and how many items are its senders' own
 abbrev pub AreGroupThreads : ℕ → List Group → List (PromisedHandle Group QueuesGroup) → Type 0
 AreGroupThreads own_items groups threads = (i : ℕ) (d : PromisedHandle Group QueuesGroup) (e : Group) → i < length threads →
-    ((slice_index_or threads i d).promise.0.value ≡ slice_index_or groups i e) × ((slice_index_or threads i d).promise.1 ≡ own_items)
+    ((slice_index_or threads i d).promise.group.value ≡ slice_index_or groups i e) × ((slice_index_or threads i d).promise.own ≡ own_items)
 
 -- each sender of each of these groups queued its own items
 pub record AllGroupsQueued (own_items : ℕ) (olds news : List Group) : Type 0 where

@@ -29,10 +29,13 @@ impl Gate for Still {
 
 /// A thread gives back the group that it was given, whose senders have each queued their own items: so many.
 #[derive(Drop)]
-struct QueuesGroup(Snapshot<Group>, u32);
+struct QueuesGroup {
+    group: Snapshot<Group>,
+    own: u32,
+}
 
 impl Promise<Group> for QueuesGroup {
-    ghost kept_by = { λ given back. AllQueued given.1 given.0.value.senders.items back.senders.items };
+    ghost kept_by = { λ given back. AllQueued given.own given.group.value.senders.items back.senders.items };
 }
 
 /// The callers of a pool: those of its workers, of the plan's senders, and of the program.
@@ -113,9 +116,12 @@ fn start_group<'s, E, R: Wait + Sync>(
 ) -> Option<PromisedHandle<Group, QueuesGroup>>
     requires caller { IsCallerOf pool.now.ready caller }
     requires ready { IsGroupFor own pool.now group }
-    ensures { IfSome result (λ handle. (handle.promise.0.value ≡ group) × (handle.promise.1 ≡ own)) }
+    ensures { IfSome result (λ handle. (handle.promise.group.value ≡ group) × (handle.promise.own ≡ own)) }
 {
-    let given = QueuesGroup(Snapshot::of(&group), own);
+    let given = QueuesGroup {
+        group: Snapshot::of(&group),
+        own,
+    };
     scope
         .spawn_with(
             given,

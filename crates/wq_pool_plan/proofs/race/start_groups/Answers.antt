@@ -10,7 +10,7 @@ loop-group-preserved g c =
     let xs = l.handles.items in let h = c.in-Some-start_group.handle in let all = c.args.groups.items in
     let kept = c.if-not-keep_handle.ensures.kept in
     let P : ℕ → PromisedHandle Group QueuesGroup → Type 0 = λ k handle. (e : Group)
-    → (handle.promise.0.value ≡ get_or all k e) × (handle.promise.1 ≡ c.args.own) in
+    → (handle.promise.group.value ≡ get_or all k e) × (handle.promise.own ≡ c.args.own) in
     let here : P (length xs) h = λ e.
     let at : get_or all (length l.yielded) c.in-Some.group ≡ get_or all (length l.yielded) e = get_or_default all
     (length l.yielded) c.in-Some.group e turn.0 in
@@ -29,6 +29,6 @@ loop-group-preserved g c =
 pub returns-then-not-keep_handle-clause-given : goal.returns-then-not-keep_handle-clause-given
 returns-then-not-keep_handle-clause-given g c = λ k d e lt.
     let kept = c.if-not-keep_handle.ensures.kept in
-    subst (λ (hs : List (PromisedHandle Group QueuesGroup)). ((get_or hs k d).promise.0.value ≡ get_or c.args.groups.items k e)
-    × ((get_or hs k d).promise.1 ≡ c.args.own)) (sym kept)
+    subst (λ (hs : List (PromisedHandle Group QueuesGroup)). ((get_or hs k d).promise.group.value ≡ get_or c.args.groups.items k e)
+    × ((get_or hs k d).promise.own ≡ c.args.own)) (sym kept)
     (c.loop-group.invariant.given k d e (omega (arith, lt, ap length kept)))

@@ -6,7 +6,7 @@ abbrev pub invariant-loop-group : goal.invariant-loop-group
 invariant-loop-group g l = record {
   count : length l.handles.items ≡ length l.yielded;
   given : (i : ℕ) (d : PromisedHandle Group QueuesGroup) (e : Group) → i < length l.handles.items
-      → ((get_or l.handles.items i d).promise.0.value ≡ get_or l.fn.groups.items i e) × ((get_or l.handles.items i d).promise.1 ≡ l.fn.own);
+      → ((get_or l.handles.items i d).promise.group.value ≡ get_or l.fn.groups.items i e) × ((get_or l.handles.items i d).promise.own ≡ l.fn.own);
   callers : All (IsCallerOf l.pool.ready) l.callers.items;
   enough : length l.fn.groups.items ≤ length l.callers.items + length l.yielded;
 }
