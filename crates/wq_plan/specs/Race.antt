@@ -29,7 +29,8 @@ use Rattle.wq_plan.specs.Sends.{SendsAll}
 abbrev pub items_at : ℕ → ℕ → List ℕ
 items_at s own = range_with_len (s * own) own
 
--- a sender queued these items, once each and in this order
+-- A sender asked for each of these items in order, once each, and each was pushed, found pending or refused (`SendsAll`): that is
+-- what "it queued its items" says of a race.
 pub record HasQueued (items : List ℕ) (old new : Known) : Type 0 where
   pub same : IsSame old new
   pub events : List Event
@@ -114,7 +115,8 @@ pub record HasRun (own_items : ℕ) (old new : Team) : Type 0 where
   pub senders : AllQueued own_items old.senders.items new.senders.items
   pub program : HasQueuedStop old.program new.program
 
--- The sender of this number, of this queue of this size: its events are the queueings of its own items.
+-- The sender of this number, of this queue of this size: its events are that it asked for each of its own items in order, once
+-- each, and that each was pushed, found pending or refused.
 pub record IsQueuer (own_items : ℕ) (queue : QueueId) (layout : Layout) (i : ℕ) (s : Known) : Type 0 where
   pub number_is : s.number ≡ i
   pub queue_is : s.queue ≡ queue

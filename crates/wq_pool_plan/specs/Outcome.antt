@@ -47,11 +47,12 @@ pub record QueueRun : Type 0 where
   pub book : BookState
   pub ledgers : List Ledger
 
--- A queue of the plan's size: the history is legal and has run to its end, and in it each of the plan's senders queued its own
--- items in order, once each. The book is of a queue of this size whose worker's own sender has the number behind the plan's
--- senders, and that sender's ledger was made in this history. What the book has seen goes on from it, legal and at its end too,
--- without an event of the owner. It made the ledgers: one for each sender but the worker's, with no count that is saturated. So
--- none is missing and none comes twice, and a book that does not balance has a saturated count of its worker's sender or owner.
+-- A queue of the plan's size: the history is legal and has run to its end, and in it each of the plan's senders asked for each of
+-- its own items in order, once each, and each was pushed, found pending or refused. The book is of a queue of this size whose
+-- worker's own sender has the number behind the plan's senders, and that sender's ledger was made in this history. What the book
+-- has seen goes on from it, legal and at its end too, without an event of the owner. It made the ledgers: one for each sender but
+-- the worker's, with no count that is saturated. So none is missing and none comes twice, and a book that does not balance has a
+-- saturated count of its worker's sender or owner.
 pub record IsQueueRun (plan : Plan) (run : QueueRun) : Type 0 where
   pub sized : IsLayoutOf plan.senders plan.own run.layout
   pub legal : IsLegal run.layout run.history
