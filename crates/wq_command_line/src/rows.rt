@@ -159,5 +159,6 @@ pub(crate) fn kind_of(name: &str) -> Kind {
             return row.kind;
         }
     }
+    // `clap` gives no other name than those of `ROWS`.
     Kind::Script
 }

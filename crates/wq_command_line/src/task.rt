@@ -8,7 +8,7 @@ use crate::rows::{DRAINED, HISTORY, command_line, kind_of};
 use clap::Error;
 use std::alloc::Global;
 
-/// What a text is.
+/// What is to be done with the text, and so what it must be.
 #[derive(Clone, Copy)]
 pub enum Kind {
     /// A script, of commands.
@@ -35,28 +35,31 @@ pub enum Source<'a> {
 /// What the words ask for.
 #[derive(Clone, Copy)]
 pub struct Task<'a> {
-    /// What the text is.
+    /// What is to be done with the text.
     pub kind: Kind,
     /// Where it stands.
     pub source: Source<'a>,
     /// Of a recording: nothing may be left.
-    pub is_drained: bool,
+    pub wants_drained: bool,
 }
+
+// What no words ask for.
+const BARE: Task<'static> = Task {
+    kind: Kind::Script,
+    source: Source::Input,
+    wants_drained: false,
+};
 
 // What these words ask for.
 fn parse<'a>(alloc: Global, words: &'a [String]) -> Result<Task<'a>, Error> {
-    let mut task = Task {
-        kind: Kind::Script,
-        source: Source::Input,
-        is_drained: false,
-    };
+    let mut task = BARE;
     let matches = command_line(alloc)?.try_get_matches_from(words)?;
     if let Some((name, matches)) = matches.subcommand() {
         task.kind = kind_of(name);
         if matches.get_flag(HISTORY) {
             task.kind = Kind::History;
         }
-        task.is_drained = matches.get_flag(DRAINED);
+        task.wants_drained = matches.get_flag(DRAINED);
         if let Some(path) = matches.get_str("FILE") {
             task.source = Source::File(path);
         }
@@ -67,14 +70,10 @@ fn parse<'a>(alloc: Global, words: &'a [String]) -> Result<Task<'a>, Error> {
 /// What the words ask for, the program's own name first: a script from standard input where they name no text. Else what is
 /// said in place of running one.
 pub fn task_of<'a>(alloc: Global, words: &'a [String]) -> Result<Task<'a>, Answer>
-    ensures bare { length words.now ≤ 1 → result ≡ Ok (record { kind = Script; source = Input; is_drained = false }) }
+    ensures bare { length words.now ≤ 1 → result ≡ Ok (record { kind = Script; source = Input; wants_drained = false }) }
 {
     if words.len() <= 1 {
-        return Ok(Task {
-            kind: Kind::Script,
-            source: Source::Input,
-            is_drained: false,
-        });
+        return Ok(BARE);
     }
     match parse(alloc, words) {
         Ok(task) => Ok(task),

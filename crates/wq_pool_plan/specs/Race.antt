@@ -15,7 +15,7 @@ use Rattle.wq_pool_plan.specs.declared.race.Callers.{Callers}
 use Rattle.wq_pool_plan.specs.declared.race.QueuesGroup.{QueuesGroup}
 use Rattle.wq_pool_plan.specs.declared.race.Raced.{Raced}
 
--- one plan, whose one queue has one worker
+-- the plan has one queue, and that one worker
 abbrev pub IsLone : Plan → Type 0
 IsLone plan = (plan.queues ≡ 1) × (plan.workers ≡ 1)
 

@@ -50,7 +50,7 @@ struct Callers {
 /// by queue.
 #[derive(Drop)]
 pub struct Raced {
-    /// The pool, with every queue in its slot.
+    /// The pool, of as many queues as the plan has.
     pub pool: Pool<Idle>,
     /// The plan's senders, a group for each queue.
     pub by_queue: Vec<Group>,

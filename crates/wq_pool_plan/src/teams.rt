@@ -8,7 +8,7 @@ use wq_live::{BuildError, Sender};
 use wq_plan::{Idle, Plan, Team};
 use wq_pool::Served;
 
-/// The senders of one number, by queue, or those of one queue, by number.
+/// A row of senders: those of one number, by queue, until their threads have ended, and in a `Raced` those of one queue, by number.
 #[derive(Drop)]
 pub struct Group {
     pub senders: Vec<Sender>,
