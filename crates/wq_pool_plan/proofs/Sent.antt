@@ -16,7 +16,8 @@ module _ (plan : Plan) (teams : Teams) (t : AreTeams plan teams) (count : length
   someone : WorkerState Idle
   someone = first_of teams.served.items (omega (arith, count, plan.in_limits.some_queue))
 
-  pub may_run : {K : Type 0} (pool : PoolState K) (callers : Callers) → pool.workers ≡ map worker_id teams.served.items → AreCallersOf pool.ready plan.senders callers
+  pub may_run : {K : Type 0} (pool : PoolState K) (callers : Callers) → pool.workers ≡ map worker_id teams.served.items
+      → AreCallersOf pool.ready plan.senders callers
       → MayRun plan.own pool callers teams.groups.items teams.programs.items
   may_run pool callers workers called =
       let queues : length pool.workers ≡ plan.queues = ap length workers ∙ (length-map teams.served.items worker_id ∙ count) in
