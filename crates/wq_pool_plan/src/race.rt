@@ -211,10 +211,7 @@ fn run_threads<'s, E, R: Threads + Wait + Sync>(
         return Err(RaceError::Thread);
     };
     running.join(rt);
-    match groups {
-        Ok(groups) => Ok((groups, programs)),
-        Err(error) => Err(error),
-    }
+    Ok((groups?, programs))
 }
 
 // The threads of a pool, in a scope of their own.
