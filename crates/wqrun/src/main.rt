@@ -35,7 +35,7 @@ fn run_text<T: Threads + Wait + Sync, R: Read + Drop, O: Write, E: Write>(
         Kind::History => history_main(alloc, reader, output, faults),
         Kind::Live => live_main(threads, alloc, reader, output, faults),
         Kind::Check => match BufReader::new(alloc, reader) {
-            Ok(reader) => check_main(alloc, reader, task.is_drained, output, faults),
+            Ok(reader) => check_main(alloc, reader, task.wants_drained, output, faults),
             Err(error) => end(Err(Failure::from(error)), output, faults),
         },
     }
