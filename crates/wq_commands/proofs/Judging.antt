@@ -9,12 +9,12 @@ use Rattle.wq_commands.specs.Ending.{WritesPart, Fails}
 use Rattle.wq_commands.proofs.Endings.{unmade_none, fails_unmade, fails_unwritten}
 use Rattle.wq_commands.specs.Judged.{WritesFinding, Says, IsSaid, HasNoFinding}
 
-pub judges_at_end : (is_drained : Bool) (status : ℕ) (remaining : Option (List ℕ)) (finding : Result Finding Failure) (before after : Option (List ℕ))
-    → IfOk finding (λ f. IfSome remaining (λ bytes. IsFoundOf bytes f)) → IsOkAnd finding (IsSaid is_drained status before after)
-    → IfSome remaining (λ bytes. WritesFinding is_drained bytes status before after)
-judges_at_end is_drained status None finding before after found said = tt
-judges_at_end is_drained status (Some bytes) (Ok f) before after found said = record { finding = f; found = found; said = said }
-judges_at_end is_drained status (Some bytes) (Err cause) before after found said = absurd said
+pub judges_at_end : (wants_drained : Bool) (status : ℕ) (remaining : Option (List ℕ)) (finding : Result Finding Failure) (before after : Option (List ℕ))
+    → IfOk finding (λ f. IfSome remaining (λ bytes. IsFoundOf bytes f)) → IsOkAnd finding (IsSaid wants_drained status before after)
+    → IfSome remaining (λ bytes. WritesFinding wants_drained bytes status before after)
+judges_at_end wants_drained status None finding before after found said = tt
+judges_at_end wants_drained status (Some bytes) (Ok f) before after found said = record { finding = f; found = found; said = said }
+judges_at_end wants_drained status (Some bytes) (Err cause) before after found said = absurd said
 
 pub fails_unsaid : (remaining : Option (List ℕ)) (finding : Result Finding Failure) (before after : Option (List ℕ)) (cause : Failure)
     → IfOk finding (λ f. IfSome remaining (λ bytes. IsFoundOf bytes f))

@@ -8,20 +8,20 @@ use Rattle.wq_commands.specs.declared.failure.Failure.TheVariants as failure
 
 -- all is legal and, if that is asked for, nothing is left
 abbrev pub passes : Bool → Finding → Bool
-passes is_drained finding = finding.is_legal && (not is_drained || finding.left == 0)
+passes wants_drained finding = finding.is_legal && (not wants_drained || finding.left == 0)
 
 abbrev pub finding_status : Bool → Finding → ℕ
-finding_status is_drained finding = if passes is_drained finding then 0 else 4
+finding_status wants_drained finding = if passes wants_drained finding then 0 else 4
 
 -- just what was found was written, and this is its status
 abbrev pub IsSaid : Bool → ℕ → Option (List ℕ) → Option (List ℕ) → Finding → Type 0
-IsSaid is_drained status before after finding = Appends before after finding.text.items × (status ≡ finding_status is_drained finding)
+IsSaid wants_drained status before after finding = Appends before after finding.text.items × (status ≡ finding_status wants_drained finding)
 
 -- what was found of the recording was written, and this is its status
-pub record WritesFinding (is_drained : Bool) (text : List ℕ) (status : ℕ) (before after : Option (List ℕ)) : Type 0 where
+pub record WritesFinding (wants_drained : Bool) (text : List ℕ) (status : ℕ) (before after : Option (List ℕ)) : Type 0 where
   pub finding : Finding
   pub found : IsFoundOf text finding
-  pub said : IsSaid is_drained status before after finding
+  pub said : IsSaid wants_drained status before after finding
 
 -- the output says what is found of the text
 pub record Says (text output : List ℕ) : Type 0 where

@@ -25,11 +25,11 @@ fn read_finding<B: BufRead>(alloc: Global, reader: &mut B) -> Result<Finding, Fa
 // Writes what was found, where something was. The answer is the exit status.
 fn write_finding<W: Write, F: Write>(
     finding: Result<Finding, Failure>,
-    is_drained: bool,
+    wants_drained: bool,
     writer: &mut W,
     faults: &mut F,
 ) -> u8
-    ensures said { (result ≡ 0) ⊎ (result ≡ 4) → IsOkAnd finding (IsSaid is_drained result (W.contents writer.old) (W.contents writer.new)) }
+    ensures said { (result ≡ 0) ⊎ (result ≡ 4) → IsOkAnd finding (IsSaid wants_drained result (W.contents writer.old) (W.contents writer.new)) }
     ensures failed { result ≢ 0 → result ≢ 4 → (cause : Cause) × (result ≡ status_of cause) × MatchResult finding
         (λ found. (cause ≡ Unwritable) × WritesPart found.text.items (W.contents writer.old) (W.contents writer.new)) (λ failure. cause ≡ failure)
         × IsUntouched cause writer.old writer.new }
@@ -44,7 +44,7 @@ fn write_finding<W: Write, F: Write>(
                 ..
             },
         ) => {
-            let passes = is_legal && (!is_drained || left == 0);
+            let passes = is_legal && (!wants_drained || left == 0);
             let status = end(Ok(text), writer, faults);
             if status == 0 && !passes { 4 } else { status }
         }
@@ -59,16 +59,16 @@ fn write_finding<W: Write, F: Write>(
 pub fn check_main<B: BufRead + Drop, W: Write, F: Write>(
     alloc: Global,
     mut reader: B,
-    is_drained: bool,
+    wants_drained: bool,
     writer: &mut W,
     faults: &mut F,
 ) -> u8
     ensures judged { (result ≡ 0) ⊎ (result ≡ 4) → IfSome (B.remaining reader)
-        (λ bytes. WritesFinding is_drained bytes result (W.contents writer.old) (W.contents writer.new)) }
+        (λ bytes. WritesFinding wants_drained bytes result (W.contents writer.old) (W.contents writer.new)) }
     ensures failed { result ≢ 0 → result ≢ 4 → (cause : Cause) × (result ≡ status_of cause) × IsUntouched cause writer.old writer.new
         × IfSome (B.remaining reader) (λ bytes. Fails Says HasNoFinding bytes (W.contents writer.old) (W.contents writer.new) cause) }
     ensures status { (result ≡ 0) ⊎ ((result ≡ 1) ⊎ ((result ≡ 3) ⊎ (result ≡ 4))) }
 {
     let finding = read_finding(alloc, &mut reader);
-    write_finding(finding, is_drained, writer, faults)
+    write_finding(finding, wants_drained, writer, faults)
 }
