@@ -9,6 +9,7 @@ ghost use Rattle.wq_commands.specs.Judged.{WritesFinding, Says, IsSaid, HasNoFin
 
 use crate::ending::end;
 use crate::failure::Failure;
+use crate::status::{NOT_LEGAL, WRITTEN};
 use std::alloc::Global;
 use std::io::{BufRead, Write};
 use wq_recording::{Finding, check};
@@ -46,7 +47,11 @@ fn write_finding<W: Write, F: Write>(
         ) => {
             let passes = is_legal && (!wants_drained || left == 0);
             let status = end(Ok(text), writer, faults);
-            if status == 0 && !passes { 4 } else { status }
+            if status == WRITTEN && !passes {
+                NOT_LEGAL
+            } else {
+                status
+            }
         }
         Err(failure) => end(Err(failure), writer, faults),
     }

@@ -7,6 +7,7 @@ ghost use Rattle.wq_commands.specs.Failure.{status_of};
 ghost use Rattle.wq_commands.specs.Ending.{IsUntouched, WritesPart};
 
 use crate::failure::Failure;
+use crate::status::WRITTEN;
 use std::io::{ErrorKind, Write};
 
 // Writes all of these bytes, as `write_all` does, of which no clause says what a writer that fails has taken.
@@ -61,7 +62,7 @@ pub fn end<W: Write, F: Write>(
     ensures status { (result ≡ 0) ⊎ ((result ≡ 1) ⊎ (result ≡ 3)) }
 {
     match write_output(output, writer) {
-        Ok(()) => 0,
+        Ok(()) => WRITTEN,
         Err(failure) => {
             let status = failure.status();
             let _ = writeln!(faults, "{failure}");

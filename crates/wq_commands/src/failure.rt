@@ -3,6 +3,7 @@ ghost use Rattle.std.specs.Prelude.{◌≡◌};
 ghost use Rattle.wq_commands.specs.Failure.{status_of, of_read_error, of_parse_error, of_plan_error, of_check_error};
 ghost use Rattle.wq_commands.specs.declared.failure.Failure.TheVariants.{Memory};
 
+use crate::status::{FAILED, NO_MEMORY};
 use std::alloc::AllocError;
 use std::io;
 use thiserror::Error;
@@ -32,16 +33,16 @@ pub enum Failure {
 }
 
 impl Failure {
-    /// The exit status: 3 for want of memory, else 1.
+    /// The exit status: 3 for want of memory or of a thread, else 1.
     pub fn status(&self) -> u8
         ensures { result ≡ status_of self.now }
     {
         match self {
-            Failure::Memory => 3,
+            Failure::Memory => NO_MEMORY,
             Failure::Refused(_)
             | Failure::RefusedPlan(_)
             | Failure::Unreadable
-            | Failure::Unwritable => 1,
+            | Failure::Unwritable => FAILED,
         }
     }
 }

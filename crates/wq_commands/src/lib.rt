@@ -8,6 +8,7 @@ mod failure;
 mod history;
 mod reading;
 mod script;
+mod status;
 mod steps;
 
 pub use check::check_main;
@@ -16,4 +17,5 @@ pub use failure::Failure;
 pub use history::history_main;
 pub use reading::read_most;
 pub use script::script_main;
+pub use status::{FAILED, NO_MEMORY, NOT_LEGAL, WRITTEN, WRONG_WORDS};
 pub use steps::steps_main;

@@ -11,7 +11,7 @@ use std::process::ExitCode;
 use std::sync::Wait;
 use std::thread::Threads;
 use wq_command_line::{Answer, Kind, Source, Task, task_of};
-use wq_commands::{Failure, check_main, end, history_main, script_main, steps_main};
+use wq_commands::{Failure, WRONG_WORDS, check_main, end, history_main, script_main, steps_main};
 use wq_live_command::live_main;
 
 // The words of the command line, the program's own name first.
@@ -47,7 +47,7 @@ fn say<O: Write, E: Write>(answer: Answer, output: &mut O, faults: &mut E) -> u8
         Answer::Help(text) => end(Ok(text), output, faults),
         Answer::Wrong(text) => {
             let _ = faults.write_all(&text);
-            2
+            WRONG_WORDS
         }
         Answer::Memory => end(Err(Failure::Memory), output, faults),
     }
