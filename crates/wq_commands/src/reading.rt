@@ -6,7 +6,8 @@ use crate::failure::Failure;
 use std::alloc::Global;
 use std::io::Read;
 
-// One byte more than a script or a schedule may have, so that a longer one is seen to be too long.
+// One byte more than `MOST_BYTES` of `wq_text`, the most that a script or a schedule may have, so that a longer one is seen to be
+// too long.
 pub(crate) const TEXT_BYTES: u64 = 1_048_577;
 
 /// Reads a text to its end, so many bytes at most. An error is one of reading: the reader failed, or memory was wanting.

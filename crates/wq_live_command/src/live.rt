@@ -13,7 +13,7 @@ use wq_commands::{Failure, end, read_most};
 use wq_plan::read_plan;
 use wq_pool_plan::run_live;
 
-// One byte more than a plan may have.
+// One byte more than `MOST_BYTES` of `wq_plan`, the most that a plan may have, so that a longer one is seen to be too long.
 const PLAN_BYTES: u64 = 65_537;
 
 // The line of the outcome of a plan's text.
