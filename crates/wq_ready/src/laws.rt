@@ -11,7 +11,7 @@ ghost use Rattle.wq_ready.specs.Known.{CallerState, CouldBe};
 /// What is announced is picked first in first out, each announcement at most once, and nothing else is picked. No more
 /// announcements wait than there are queues.
 pub fn first_in_first_out()
-    ensures { (size : Size) (h : List ReadyEvent) → IsReadyLegal size h → KeepsOrder size h }
+    ensures each_legal { (size : Size) (h : List ReadyEvent) → IsReadyLegal size h → KeepsOrder size h }
 {}
 
 /// A caller that is the only one finds the ready queue full or empty only where what it has itself seen is.

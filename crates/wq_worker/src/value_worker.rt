@@ -213,14 +213,6 @@ impl<V: Drop, W: ValueWork<V>> ValueWorker<V, W> {
         self.pair.legal();
     }
 
-    /// The worker's sender is one of its queue's.
-    pub fn seated(&self)
-        ensures in_layout { self.now.worker.number < self.now.worker.layout.senders }
-    {
-        // opens the worker, whose invariant says this
-        let _ = &self.pair;
-    }
-
     /// How large the queue is.
     pub fn layout(&self) -> Layout
         ensures size { result ≡ self.now.worker.layout }

@@ -186,14 +186,6 @@ impl<W: Work> Worker<W> {
         let _ = &self.pair;
     }
 
-    /// The worker's sender is one of its queue's.
-    pub fn seated(&self)
-        ensures in_layout { self.now.number < self.now.layout.senders }
-    {
-        // opens the worker, whose invariant says this
-        let _ = &self.pair;
-    }
-
     /// How large the queue is.
     pub fn layout(&self) -> Layout
         ensures size { result ≡ self.now.layout }
