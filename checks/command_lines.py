@@ -95,6 +95,9 @@ ROWS = [
     ("check --drained --drained a.trace", 2, b"", Some([b"error: the argument '--drained' cannot be used multiple times"])),
     ("script a b", 2, b"", Some([b"error: unexpected argument 'b' found"])),
     ("live --fast a", 2, b"", Some([b"error: unexpected argument '--fast' found"])),
+    # behind help stand names of commands alone
+    ("help --help", 2, b"", Some([b"error: unrecognized subcommand '--help'"])),
+    ("help script --help", 2, b"", Some([b"error: unrecognized subcommand '--help'"])),
 ]
 
 # on a device that takes nothing: standard output alone, and standard error too
