@@ -1,4 +1,4 @@
-//! Why a text is no script.
+//! Why a text is refused.
 ghost use Rattle.std.specs.Prelude.{◌≡◌};
 ghost use Rattle.wq_text.specs.declared.fault.LineError.TheVariants.{Memory};
 
@@ -9,7 +9,7 @@ use thiserror::Error;
 /// What is wrong with a line, in the order in which it is tested. It is written as it is named.
 #[derive(Clone, Copy, Debug, PartialEq, Eq)]
 pub enum Kind {
-    /// The text is longer than 1,048,576 bytes.
+    /// A script or a schedule over 1,048,576 bytes, or a line of a recording over 4,096.
     Size,
     /// The first line names no version of the language.
     Version,
@@ -19,25 +19,26 @@ pub enum Kind {
     Bytes,
     /// A space at the beginning or at the end, or two together.
     Space,
-    /// The first word is no command.
+    /// The first word begins no line of the language; in a schedule or a history the second is missing or names no step or
+    /// event, or the last no cause.
     Word,
-    /// A header line out of its place, or a command in its place.
+    /// A header line out of its place, or another line or the end of the text in its place.
     Header,
     /// Too few or too many words.
     Count,
-    /// A word that is no number.
+    /// A word that is no number, and names none that may stand there.
     Number,
-    /// Not 1 to 4,096 items, or in version 2 not 1 to 65,536.
+    /// None, or more than the version of the language has: 4,096 in version 1 of scripts and schedules, else 65,536.
     Items,
-    /// Not 1 to 62 senders.
+    /// None, or more than the language has: 62 in a script, 64 in a schedule or a history.
     Senders,
     /// Not 1 to 16 barriers.
     Barriers,
-    /// No sender of the script.
+    /// No sender of the text.
     Sender,
-    /// No item of the script.
+    /// No item of the text.
     Item,
-    /// No barrier of the script.
+    /// No barrier of the text.
     Barrier,
     /// A number of executions that is 0 or above 65,536.
     Limit,
@@ -65,7 +66,7 @@ pub enum ParseError {
     /// The allocator gave no memory.
     #[error("memory")]
     Memory,
-    /// The text is no script.
+    /// The text is not of its language.
     #[error(transparent)]
     Refused(ScriptError),
 }
