@@ -15,8 +15,8 @@ use crate::line::{Language, read_line};
 use std::alloc::{AllocError, Global};
 use wq_words::Layout;
 
-// How long a text may be.
-const MAX_BYTES: usize = 1_048_576;
+/// How many bytes a script or a schedule may have.
+pub const MOST_BYTES: usize = 1_048_576;
 
 fn refused(line: u64, kind: Kind) -> ParseError
     ensures { result ≡ ParseError.Refused (record { line = line; kind = kind }) }
@@ -102,7 +102,7 @@ pub(crate) fn read<L: Language>(
     ensures sound { IfOk result (λ x. AreSound L.grammar.most.senders L.fits x.0 x.1.items) }
     ensures few { IfOk result (λ x. length x.1.items ≤ 1048576) }
 {
-    if text.len() > MAX_BYTES {
+    if text.len() > MOST_BYTES {
         return Err(refused(1, Kind::Size));
     }
     let mut stage = Stage::Version;

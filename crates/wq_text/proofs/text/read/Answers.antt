@@ -3,8 +3,8 @@ use Rattle.wq_text.proofs.Texts.{refused_for, read_nothing, read_more, faulty_li
 use Rattle.wq_text.proofs.Sound.{keeps, ends_sound}
 use Rattle.wq_text.proofs.text.read.Goals as goal
 
-pub returns-then-text-gt-MAX_BYTES-clause-refused : goal.returns-then-text-gt-MAX_BYTES-clause-refused
-returns-then-text-gt-MAX_BYTES-clause-refused g c = rw c.refused.ensures (inl (omega arith, refl))
+pub returns-then-text-gt-MOST_BYTES-clause-refused : goal.returns-then-text-gt-MOST_BYTES-clause-refused
+returns-then-text-gt-MOST_BYTES-clause-refused g c = rw c.refused.ensures (inl (omega arith, refl))
 
 pub loop-line-init : goal.loop-line-init
 loop-line-init g c = record {
