@@ -30,8 +30,9 @@ fn is_trace(line: &[u8]) -> bool
 /// verdicts, and nothing behind the line that decides changes one (`one_verdict`).
 ///
 /// # Errors
-/// `Text` with the first faulty line and the first fault on it, behind which nothing was read, or want of memory; `Read` where the
-/// reader failed before a line decided.
+/// `Text` with the first faulty line and the first fault on it, behind which nothing was read, or with `Memory` where memory for
+/// the checker or the finding was refused. `Read` where the reader failed before a line decided, or, with the kind
+/// `OutOfMemory`, memory for a line was refused.
 pub fn check<B: BufRead>(alloc: Global, reader: &mut B) -> Result<Finding, CheckError>
     ensures found { IfOk result (λ finding. IfSome (B.remaining reader.old) (λ text. IsFoundOf text finding)) }
     ensures refused { IfErr result (λ error. IfSome (B.remaining reader.old) (λ text. IfTextRefused error (IsRefusedFor text))) }

@@ -104,8 +104,9 @@ fn write_history(layout: &Layout, history: &[Event], out: &mut String) -> Result
     write_events(layout, history, out)
 }
 
-/// The text of a history as a recording, with a line for each event (docs/FORMATS.md). What it says when it is read is just that
-/// history (`histories_read_back`). The only error is want of memory.
+/// The text of a history as a recording, with a line for each event (docs/FORMATS.md). Where the seats and numbers of the events
+/// are the layout's, what it says when it is read is just that history (`histories_read_back`); a number behind the stop item's
+/// is written as `stop`. The only error is want of memory.
 pub fn record_history(
     alloc: Global,
     layout: &Layout,

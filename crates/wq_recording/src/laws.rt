@@ -17,8 +17,9 @@ pub fn one_verdict()
     ensures trace_too_long { IsDecidedByLength trace_grammar trace_rules }
 {}
 
-/// What is written of a history says just that history when it is read as a recording, event by event and as a whole: where its
-/// events are legal, the text is found legal and is never refused. A law, which computes nothing.
+/// What is written of a history whose seats and numbers are the layout's says just that history when it is read as a recording,
+/// event by event and as a whole: where its events are legal, the text is found legal and is never refused. A law, which
+/// computes nothing.
 pub fn histories_read_back()
     ensures event { TellsItsEvent }
     ensures events { TellsItsEvents }
