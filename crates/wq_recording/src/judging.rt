@@ -112,7 +112,7 @@ fn refused(line: u64, kind: Kind) -> ParseError
     ParseError::Refused(ScriptError { line, kind })
 }
 
-// Why line `number` could not be read.
+// Why this line could not be read.
 fn refusal(line: u64, error: LineError) -> ParseError
     ensures { result ≡ refusal_of line error }
 {
@@ -189,8 +189,8 @@ pub(crate) fn judge<L: Recording, B: BufRead>(
                     line: number,
                     cause,
                 };
-                let told = checker.unwrap();
-                let finding = found::<L>(alloc, layout, &told, Some(stop))?;
+                let checker = checker.unwrap();
+                let finding = found::<L>(alloc, layout, &checker, Some(stop))?;
                 return Ok(finding);
             }
         }

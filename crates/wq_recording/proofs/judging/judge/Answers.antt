@@ -66,12 +66,12 @@ returns-in-Stop-clause-found g c = λ known taken got.
     let r = g.L.Recording in
     let l = c.loop-number in
     let whole = sym c.deref.ensures.value ∙ c.in-Line.ensures in
-    let told = rw (c.in-Stop.is, c.unwrap-told.ensures) at c.in-Ok.ensures.told in
+    let told = rw (c.in-Stop.is, c.unwrap-checker.ensures) at c.in-Ok.ensures.told in
     let comes = told.4 in
     let stops = comes.1.1 in
     let given = told.2 ∙ ap (λ one. Ok (told.0, one)) stops.1 in
     reads_stop (line_gives g.L.Language.grammar) r.rules r.layout_of r.is_after known l.number l.stage l.checker l.line.items (g.B.Read.remaining l.reader)
-    told.0 stops.0 _ c.in-Stop.layout c.unwrap-told.result c.in_ok-finding-in-Stop.finding c.in-Line.text.now whole given refl comes.1.0 comes.0 stops.2
+    told.0 stops.0 _ c.in-Stop.layout c.unwrap-checker.result c.in_ok-finding-in-Stop.finding c.in-Line.text.now whole given refl comes.1.0 comes.0 stops.2
     g.met.L.Recording.legal c.in_ok-finding-in-Stop.ensures.says (l.invariant.reads known taken got)
 
 pub loop-number-preserved : goal.loop-number-preserved
