@@ -5,6 +5,6 @@ use thiserror::Error;
 #[derive(Clone, Copy, Debug, PartialEq, Eq, Error)]
 pub enum RunError {
     /// An allocation was refused.
-    #[error("out of memory")]
+    #[error("memory")]
     Memory,
 }

@@ -15,7 +15,7 @@ pub struct Counts {
     pub executed: u64,
     /// Queueings that found the PENDING bit set.
     pub busy: u64,
-    /// Queueings that were given back since the queue took no push: it was closed, or drained.
+    /// Queueings that were given back because the queue took no push: it was closed, or drained.
     pub refused: u64,
     /// Items on the delay table.
     pub delayed: u64,
