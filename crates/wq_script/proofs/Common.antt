@@ -53,7 +53,7 @@ pub use Rattle.wq_meaning.specs.Report.{line, report_text}
 pub use Rattle.wq_meaning.proofs.Answers.{arm_given, queue_uncontended, modify_given}
 pub use Rattle.wq_meaning.proofs.Meanings.{wrote, advanced, advance_back, advance_on, drained, drain_open, drain_closed}
 pub use Rattle.wq_meaning.proofs.Sizes.{advance_few, close_few, executions_few, modify_few, modify_table_few}
-pub use Rattle.wq_script.specs.Arming.{GoesWithTable, ArmsAs, CancelsAs, ModifiesAs, IsPosted, IsBack}
+pub use Rattle.wq_script.specs.Arming.{GoesWithTable, ArmsAs, CancelsAs, ModifiesAs, IsPosted, IsBackwards}
 pub use Rattle.wq_script.specs.Asking.{Asks, Reaches, Ran, HasLists, AsksOf, RunsAs}
 pub use Rattle.wq_script.specs.Counting.{Tallied, counted, counted_armed, counted_push, counted_modified, counted_posts}
 pub use Rattle.wq_script.specs.Engine.{Meets, EngineDrains, Does, size, HasStateWithin}

@@ -36,8 +36,8 @@ ModifiesAs item delay a s t =
     × GoesWithTable layout (h ++ modify_events (delayer layout) item delay h s.delay.table) (modify_table item delay h s.delay.table) s t
 
 -- the tick is before the present one, and nothing happened
-abbrev pub IsBack : ℕ → Seats → Seats → Type 0
-IsBack tick s t = (layout : Layout) (h : List Event) → Seated layout s h → (tick < s.delay.table.tick) × GoesWithTable layout h s.delay.table s t
+abbrev pub IsBackwards : ℕ → Seats → Seats → Type 0
+IsBackwards tick s t = (layout : Layout) (h : List Event) → Seated layout s h → (tick < s.delay.table.tick) × GoesWithTable layout h s.delay.table s t
 
 -- these were due, and were posted: none while the queue drains
 abbrev pub IsPosted : ℕ → List ℕ → Seats → Seats → Type 0

@@ -8,7 +8,7 @@ ghost use Rattle.wq_words.specs.Numbers.{barrier_number, stop_number};
 ghost use Rattle.wq_live.specs.Known.{Known};
 ghost use Rattle.wq_script.specs.Seats.{StaysSilent, AllHear, IsSameTable, AreOne, Gathers, Seated, HasHistory};
 ghost use Rattle.wq_script.specs.Asking.{AsksOf, LooksAt, ClosesAs, DrainsNone, RunsAs};
-ghost use Rattle.wq_script.specs.Arming.{ArmsAs, CancelsAs, ModifiesAs, IsBack, IsPosted};
+ghost use Rattle.wq_script.specs.Arming.{ArmsAs, CancelsAs, ModifiesAs, IsBackwards, IsPosted};
 ghost use Rattle.wq_words.specs.History.{pending, closed};
 ghost use Rattle.wq_words.specs.DelayTable.{on_table};
 
@@ -19,6 +19,10 @@ use wq_delay::{Backwards, Delay};
 use wq_live::{Sender, build};
 use wq_words::{Answer, Armed, Layout, Modified};
 use wq_worker::{Drained, Follow, Worker};
+
+// How often a push is tried. One try is enough: a command is one call taken whole, so no other seat comes between its look and
+// its push.
+const ONE_TRY: u32 = 1;
 
 // Who queues, who delays and who executes: a queue has no seat but these.
 #[derive(Drop)]
@@ -64,7 +68,7 @@ impl Seats {
         let Some(sender) = senders.pop() else {
             unreachable!()
         };
-        let worker = Worker::new(owner, sender, lists, 1);
+        let worker = Worker::new(owner, sender, lists, ONE_TRY);
         Ok(Seats {
             worker,
             delay,
@@ -102,7 +106,7 @@ impl Seats {
         ensures { AsksOf sender (λ _. item) result self.old self.new }
     {
         let place = sender as usize;
-        let answer = self.senders[place].queue_tries(item, 1);
+        let answer = self.senders[place].queue_tries(item, ONE_TRY);
         self.gather(place);
         answer
     }
@@ -115,7 +119,7 @@ impl Seats {
         ensures { AsksOf sender (λ layout. barrier_number layout barrier) result self.old self.new }
     {
         let place = sender as usize;
-        let answer = self.senders[place].flush_begin(barrier, 1);
+        let answer = self.senders[place].flush_begin(barrier, ONE_TRY);
         self.gather(place);
         answer
     }
@@ -127,7 +131,7 @@ impl Seats {
         ensures { AsksOf sender stop_number result self.old self.new }
     {
         let place = sender as usize;
-        let answer = self.senders[place].request_stop(1);
+        let answer = self.senders[place].request_stop(ONE_TRY);
         self.gather(place);
         answer
     }
@@ -218,7 +222,7 @@ impl Seats {
         ensures { ArmsAs item delay result self.old self.new }
     {
         self.delay.fit();
-        let armed = self.delay.arm(item, delay, 1);
+        let armed = self.delay.arm(item, delay, ONE_TRY);
         self.gather(0);
         armed
     }
@@ -236,7 +240,8 @@ impl Seats {
         was_on_table
     }
 
-    // Arms an item again that is on the delay table, or posts it where there is no delay, with one try. Arms another.
+    // Arms an item again that is on the delay table, or posts it where there is no delay, with one try. An item that is not on
+    // the table is armed.
     pub(crate) fn modify(&mut self, item: u32, delay: u64) -> Modified
         requires seated { HasHistory self.old }
         requires some { 0 < length self.old.senders.items }
@@ -244,7 +249,7 @@ impl Seats {
         ensures { ModifiesAs item delay result self.old self.new }
     {
         self.delay.fit();
-        let modified = self.delay.modify(item, delay, 1);
+        let modified = self.delay.modify(item, delay, ONE_TRY);
         self.gather(0);
         modified
     }
@@ -276,11 +281,11 @@ impl Seats {
     ) -> Result<Option<Vec<u32>>, AllocError>
         requires seated { HasHistory self.old }
         requires some { 0 < length self.old.senders.items }
-        ensures { IfOk result (λ o. MatchOption o (IsBack tick self.old self.new) (λ posted. IsPosted tick posted.items self.old self.new)) }
+        ensures { IfOk result (λ o. MatchOption o (IsBackwards tick self.old self.new) (λ posted. IsPosted tick posted.items self.old self.new)) }
     {
         self.delay.fit();
         let posted = self.posted_at(alloc, tick)?;
-        let advanced = self.delay.advance(tick, 1);
+        let advanced = self.delay.advance(tick, ONE_TRY);
         self.gather(0);
         match advanced {
             Ok(_) => Ok(Some(posted)),

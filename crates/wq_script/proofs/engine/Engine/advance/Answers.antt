@@ -1,6 +1,6 @@
 use Rattle.wq_script.proofs.Common.{◌≡◌, ◌∙◌, ℕ, ◌+◌, ◌++◌, sym, ap, refl, arith, string_bytes, subst, length-append, codes, length, MatchOption, lt-ltb}
 use Rattle.wq_script.proofs.Common.{le-ltb, closed, DelayTable, line, row_text, advance_word, posted_items, advance_events, ScriptState, wrote, advanced}
-use Rattle.wq_script.proofs.Common.{advance_back, advance_on, advance_few, IsBack, IsPosted, counted_posts, Meets, size}
+use Rattle.wq_script.proofs.Common.{advance_back, advance_on, advance_few, IsBackwards, IsPosted, counted_posts, Meets, size}
 use Rattle.wq_text.specs.declared.command.Command.TheVariants as command
 use Rattle.wq_script.proofs.Meetings.{engine, back_meets}
 use Rattle.wq_script.proofs.TableMeetings.{posted_meets}
@@ -9,8 +9,8 @@ use Rattle.wq_script.proofs.engine.Engine.advance.Goals as goal
 pub returns-in_default : goal.returns-in_default
 returns-in_default c =
     let e = c.args.self.now in let tick : ℕ = c.args.tick in let b = c.advance.new.self in
-    let told : IsBack tick e.seats b =
-    subst (λ o. MatchOption o (IsBack tick e.seats b) (λ due. IsPosted tick due.items e.seats b)) c.in_default.is c.in_ok-posted.ensures in
+    let told : IsBackwards tick e.seats b =
+    subst (λ o. MatchOption o (IsBackwards tick e.seats b) (λ due. IsPosted tick due.items e.seats b)) c.in_default.is c.in_ok-posted.ensures in
     let so = λ (s : ScriptState) (m : Meets e s).
     advance_back e.layout s tick (lt-ltb _ _ (omega (arith, (told e.layout s.history m.seated).0, ap (λ (t : DelayTable). t.tick) m.table))) in
     record {
@@ -29,7 +29,7 @@ returns c =
     let p : ℕ = e.layout.senders + 1 in
     let posted = c.in-Some.posted.items in
     let told : IsPosted tick posted e.seats b =
-    subst (λ o. MatchOption o (IsBack tick e.seats b) (λ due. IsPosted tick due.items e.seats b)) c.in-Some.is c.in_ok-posted.ensures in
+    subst (λ o. MatchOption o (IsBackwards tick e.seats b) (λ due. IsPosted tick due.items e.seats b)) c.in-Some.is c.in_ok-posted.ensures in
     let long : c.len.result ≡ length posted = c.len.ensures ∙ c.in-Some.posted.ok.0 in
     let counts = λ (s : ScriptState) (m : Meets e s).
     c.posting.ensures ∙ (λ i. counted_posts (c.is_closed-is_closed.ensures e.layout s.history m.seated i) (long i) e.tally) in
