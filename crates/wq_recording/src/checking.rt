@@ -31,8 +31,8 @@ fn is_trace(line: &[u8]) -> bool
 ///
 /// # Errors
 /// `Text` with the first faulty line and the first fault on it, behind which nothing was read, or with `Memory` where memory for
-/// the checker or the finding was refused. `Read` where the reader failed before a line decided, or, with the kind
-/// `OutOfMemory`, memory for a line was refused.
+/// a line's words, the checker or the finding was refused. `Read` where the reader failed before a line decided, or, with the
+/// kind `OutOfMemory`, memory for a line's bytes was refused.
 pub fn check<B: BufRead>(alloc: Global, reader: &mut B) -> Result<Finding, CheckError>
     ensures found { IfOk result (λ finding. IfSome (B.remaining reader.old) (λ text. IsFoundOf text finding)) }
     ensures refused { IfErr result (λ error. IfSome (B.remaining reader.old) (λ text. IfTextRefused error (IsRefusedFor text))) }

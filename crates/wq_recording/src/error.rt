@@ -11,11 +11,11 @@ use wq_text::ParseError;
 /// Why nothing is said of a recording.
 #[derive(Debug, Drop, Error)]
 pub enum CheckError {
-    /// The reader failed, or, with the kind `OutOfMemory`, memory for a line was refused. With the kind `TimedOut` it may be that
-    /// 2^64 - 2 lines decided nothing, or that one line took 2^64 - 1 reads.
+    /// The reader failed, or, with the kind `OutOfMemory`, memory for a line's bytes was refused. With the kind `TimedOut` it may
+    /// be that 2^64 - 2 lines decided nothing, or that one line took 2^64 - 1 reads.
     #[error(transparent)]
     Read(io::Error),
-    /// The text is refused at its first faulty line, or memory for the checker or the finding was.
+    /// The text is refused at its first faulty line, or memory for a line's words, the checker or the finding was.
     #[error(transparent)]
     Text(ParseError),
 }
