@@ -13,7 +13,7 @@ mod schedule_output;
 
 pub use answer::{answer_text, armed_text, modified_text, write_close};
 pub use error::RunError;
-pub use lines::{advance_word, either, write_left, write_line, write_name, write_row};
+pub use lines::{advance_word, either, write_left, write_line, write_named, write_row};
 pub use order::ordered_tables;
 pub use replies::why_text;
 pub use report::{Counts, write_count};

@@ -37,8 +37,8 @@ pub fn advance_word(is_closed: bool, posted: &[u32]) -> &'static str
     either(is_closed && !posted.is_empty(), "refused", "pushed")
 }
 
-/// Writes a space and the name of a number.
-pub fn write_name(layout: &Layout, number: u32, out: &mut String) -> Result<(), AllocError>
+// Writes a space and the name of a number.
+pub(crate) fn write_name(layout: &Layout, number: u32, out: &mut String) -> Result<(), AllocError>
     ensures written { OnOk result (string_bytes out.new ≡ string_bytes out.old ++ named layout.now number) }
 {
     if number < layout.items {
@@ -49,6 +49,19 @@ pub fn write_name(layout: &Layout, number: u32, out: &mut String) -> Result<(), 
     } else {
         out.push_str(" stop")
     }
+}
+
+/// Writes a word, and behind it a space and the name of a number.
+pub fn write_named(
+    layout: &Layout,
+    word: &str,
+    number: u32,
+    out: &mut String,
+) -> Result<(), AllocError>
+    ensures written { OnOk result (string_bytes out.new ≡ string_bytes out.old ++ (word.now ++ named layout.now number)) }
+{
+    out.push_str(word)?;
+    write_name(layout, number, out)
 }
 
 /// Writes the names of numbers.

@@ -1,21 +1,12 @@
 //! How the steps of a schedule read.
 ghost use Rattle.std.specs.Prelude.{◌≡◌, ◌++◌, OnOk, string_bytes};
-ghost use Rattle.wq_meaning.specs.Names.{named};
 ghost use Rattle.wq_meaning.specs.Replies.{head_text, reply_text, why_text, said_again, made_text};
 ghost use Rattle.wq_meaning.specs.Report.{line};
 
-use crate::lines::{either, write_name};
+use crate::lines::{either, write_name, write_named};
 use std::alloc::AllocError;
 use wq_core::{Reply, Step};
 use wq_words::{Head, Layout, Why};
-
-/// Writes a word and the name of a number.
-fn write_named(layout: &Layout, word: &str, number: u32, out: &mut String) -> Result<(), AllocError>
-    ensures { OnOk result (string_bytes out.new ≡ string_bytes out.old ++ (word.now ++ named layout.now number)) }
-{
-    out.push_str(word)?;
-    write_name(layout, number, out)
-}
 
 fn write_head(layout: &Layout, head: Head, out: &mut String) -> Result<(), AllocError>
     ensures { OnOk result (string_bytes out.new ≡ string_bytes out.old ++ head_text layout.now head) }

@@ -5,9 +5,8 @@ ghost use Rattle.wq_meaning.specs.Report.{line, count_line};
 ghost use Rattle.wq_recording.specs.HistoryText.{sender_text, event_text, event_lines, header_text, history_text, IsRecordingOf};
 ghost use Rattle.wq_text.specs.Schedule.{schedule_layout, turns_of};
 
-use crate::verdict_text::write_named;
 use std::alloc::{AllocError, Global};
-use wq_meaning::{steps_history, why_text, write_count, write_line};
+use wq_meaning::{steps_history, why_text, write_count, write_line, write_named};
 use wq_text::Schedule;
 use wq_words::{Event, Layout, Why};
 

@@ -2,7 +2,6 @@
 ghost use Rattle.std.specs.Prelude.{◌≡◌, ◌++◌, ℕ, List, codes, IfOk, OnOk, string_bytes};
 ghost use Rattle.wq_words.specs.Counting.{capped};
 ghost use Rattle.wq_meaning.specs.Report.{line};
-ghost use Rattle.wq_meaning.specs.Names.{named};
 ghost use Rattle.wq_recording.specs.VerdictText.{cause_text, verdict_head, verdict_of, verdict_text, SaysOf};
 
 use crate::finding::Finding;
@@ -10,21 +9,8 @@ use crate::recording::Recording;
 use crate::stop::Stop;
 use std::alloc::{AllocError, Global};
 use wq_check::Cause;
-use wq_meaning::{write_count, write_line, write_name, write_row};
+use wq_meaning::{write_count, write_line, write_named, write_row};
 use wq_words::Layout;
-
-/// Writes a word and the name of a number.
-pub(crate) fn write_named(
-    layout: &Layout,
-    word: &str,
-    number: u32,
-    out: &mut String,
-) -> Result<(), AllocError>
-    ensures { OnOk result (string_bytes out.new ≡ string_bytes out.old ++ (word.now ++ named layout.now number)) }
-{
-    out.push_str(word)?;
-    write_name(layout, number, out)
-}
 
 fn write_cause(layout: &Layout, cause: Cause, out: &mut String) -> Result<(), AllocError>
     ensures { OnOk result (string_bytes out.new ≡ string_bytes out.old ++ cause_text layout.now cause) }
