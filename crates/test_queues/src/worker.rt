@@ -1,4 +1,5 @@
 //! Workers: destroys, books, and what threads see.
+mod again;
 mod books;
 mod clearing;
 mod contention;
