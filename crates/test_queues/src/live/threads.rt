@@ -4,6 +4,8 @@ use crate::expect::expect_same;
 use crate::seats::seats;
 use std::process::Abort;
 use std::sync::Wait;
+use std::sync::atomic::AtomicU64;
+use std::sync::atomic::Ordering::SeqCst;
 use std::test::Fail;
 use std::thread::{Threads, join_mut, yield_now};
 use wq_live::{Answer, Owner, Sender, build};
@@ -93,20 +95,48 @@ fn two_threads_queue_in_their_order(rt: HostRuntime) {
     expect_halves(&rt, &owner, executed.as_slice(), 64);
 }
 
-/// Queues three items again and again, each where it is no longer pending. Answers how many were queued.
-fn queue_again(sender: &mut Sender, rounds: u32) -> u32 {
+/// Queues each of three items that is no longer pending. Answers how many were queued.
+fn queue_three<R: Abort>(rt: &R, sender: &mut Sender) -> u32 {
     let mut queued = 0u32;
-    for _ in 0..rounds {
-        for item in 0..3u32 {
-            if item >= sender.layout().items {
-                return queued;
-            }
-            if let Answer::Queued { .. } = sender.queue_tries(item, 8) {
-                queued = queued.wrapping_add(1);
-            }
+    for item in 0..3u32 {
+        assert!(rt; item < sender.layout().items);
+        if let Answer::Queued { .. } = sender.queue_tries(item, 8) {
+            queued = queued.wrapping_add(1);
         }
     }
     queued
+}
+
+/// Queues three items again and again until 1,000 are queued, and says that it is done. Answers how many were queued.
+fn queue_again<R: Abort + Wait>(rt: &R, sender: &mut Sender, is_done: &AtomicU64) -> u32 {
+    let mut queued = 0u32;
+    for _ in rt.forever() {
+        match queue_three(rt, sender) {
+            0 => yield_now(),
+            more => queued = queued.wrapping_add(more),
+        }
+        if queued >= 1000 {
+            is_done.store(1, SeqCst);
+            return queued;
+        }
+    }
+    unreachable!()
+}
+
+/// Executes what waits until the sender is done, and appends the numbers in order.
+fn execute_beside<R: Abort + Wait>(
+    rt: &R,
+    owner: &mut Owner,
+    is_done: &AtomicU64,
+    into: &mut Vec<u32>,
+) {
+    for _ in rt.forever() {
+        assert!(rt; execute_for(owner, 1, into));
+        if is_done.load(SeqCst) > 0 {
+            return;
+        }
+    }
+    unreachable!()
 }
 
 /// What has begun is queued again, and linked anew, while others of its batch wait.
@@ -116,12 +146,13 @@ fn items_are_queued_again_while_a_batch_waits(rt: HostRuntime) -> Result<(), Fai
     let (mut owner, mut senders) = build(rt.alloc(), layout)?;
     let mut sender = senders.pop().expect(&rt, "sender 0");
     let mut executed = Vec::new(rt.alloc());
-    let (queued, running) = join_mut(
+    let is_done = AtomicU64::new(0);
+    let (queued, ()) = join_mut(
         &rt,
-        &mut || queue_again(&mut sender, 2000),
-        &mut || execute_for(&mut owner, 4000, &mut executed),
+        &mut || queue_again(&rt, &mut sender, &is_done),
+        &mut || execute_beside(&rt, &mut owner, &is_done, &mut executed),
     );
-    assert!(rt; running);
+    assert!(rt; queued >= 1000, "{queued}");
     assert!(rt; close(&mut owner).is_some());
     assert!(rt; execute_for(&mut owner, 4, &mut executed));
     expect_same(&rt, executed.len(), queued as usize);
@@ -158,7 +189,7 @@ fn execute_until<R: Wait>(rt: &R, owner: &mut Owner, last: u32) -> u32 {
 }
 
 #[test]
-fn flush_waits_for_all_that_was_queued(rt: HostRuntime) -> Result<(), Fail> {
+fn flush_returns_beside_an_owner(rt: HostRuntime) -> Result<(), Fail> {
     let layout = Layout::new(16, 1, 1)?;
     let (mut owner, mut senders) = build(rt.alloc(), layout)?;
     let mut sender = senders.pop().expect(&rt, "sender 0");
