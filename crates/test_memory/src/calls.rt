@@ -228,7 +228,7 @@ fn replay_turns(alloc: Global) -> Said {
     }
 }
 
-/// How many items a table has, more than a node of a map holds.
+/// How many items a table has. Its wheel has 256 slots, however many items there are.
 const ITEMS: u32 = 16;
 
 /// Arms an item that is not on the table and sets its delay anew. None where memory was wanting, which left the table as it was.
