@@ -6,9 +6,14 @@ use Rattle.wq_words.specs.History.{accepted, begun, ended}
 use Rattle.wq_words.specs.Legal.{IsLegal, IsComplete}
 use Rattle.wq_words.specs.Headline.{KeepsHeadline}
 use Rattle.wq_words.specs.Seen.{own, owner_seat}
-use Rattle.wq_live.specs.Known.{QueueId}
+use Rattle.wq_live.specs.Known.{QueueId, Known, IsSame}
 use Rattle.example_threads.specs.declared.queueing.Told.{Told}
 use Rattle.example_threads.specs.declared.running.Met.{Met}
+
+-- the same sender has queued: what was accepted of it is what it queued and was answered Queued for, in its order
+pub record QueuedAsTold (sender : Known) (told : Told) : Type 0 where
+  pub same : IsSame sender told.sender
+  pub accepted_is : accepted (own sender.number told.sender.seen) ≡ told.queued.items
 
 -- the sender of this number, of this queue: what was accepted of it is what it queued and was answered Queued for, in its order
 pub record TellsOwn (queue : QueueId) (number : ℕ) (told : Told) : Type 0 where

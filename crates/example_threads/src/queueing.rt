@@ -1,12 +1,14 @@
-//! A sender, which queues its items and wakes who executes them where an answer says so.
-ghost use Rattle.std.specs.Prelude.{◌≡◌, ◌<◌, ◌≤◌, ◌++◌, []};
+//! A sender, which queues its items and wakes who executes them where an answer says so; and two that do so in two threads.
+ghost use Rattle.std.specs.Prelude.{◌≡◌, ◌*◌, ◌<◌, ◌≤◌, ◌++◌, []};
 ghost use Rattle.wq_live.specs.History.{accepted};
 ghost use Rattle.wq_live.specs.Seen.{own};
 ghost use Rattle.wq_live.specs.Known.{IsSame};
 ghost use Rattle.wq_live.specs.Laws.{queued_number};
+ghost use Rattle.example_threads.specs.Met.{QueuedAsTold};
 
 use crate::waking::Waker;
 use std::sync::Wait;
+use std::thread::{Threads, join};
 use trail::Trail;
 use wq_live::{Answer, Sender, queued_is_accepted};
 
@@ -15,6 +17,13 @@ use wq_live::{Answer, Sender, queued_is_accepted};
 pub struct Told {
     pub sender: Sender,
     pub queued: Trail,
+}
+
+/// Two senders, with what each of them queued.
+#[derive(Drop)]
+pub(crate) struct Both {
+    pub(crate) first: Told,
+    pub(crate) second: Told,
 }
 
 /// The list with the number, if the answer is `Queued`.
@@ -50,8 +59,7 @@ pub(crate) fn queue_own<R: Wait>(
     requires from { from ≤ to }
     requires to { to ≤ sender.layout.items }
     requires new { sender.seen ≡ [] }
-    ensures same { IsSame sender result.sender }
-    ensures accepted { accepted (own sender.number result.sender.seen) ≡ result.queued.items }
+    ensures { QueuedAsTold sender result }
 {
     let mut queued = Trail::new();
     for item in from..to {
@@ -59,6 +67,33 @@ pub(crate) fn queue_own<R: Wait>(
         queued = tell(queued, item, answer);
     }
     Told { sender, queued }
+}
+
+/// Two senders queue so many items each, of their own, in two threads.
+pub(crate) fn queue_both<R: Threads + Wait + Sync>(
+    rt: &R,
+    first: Sender,
+    second: Sender,
+    each: u32,
+    waker: &Waker,
+) -> Both
+    requires items { (each * 2 ≤ first.layout.items) × (each * 2 ≤ second.layout.items) }
+    requires new { (first.seen ≡ []) × (second.seen ≡ []) }
+    ensures first { QueuedAsTold first result.first }
+    ensures second { QueuedAsTold second result.second }
+{
+    let (first, second) = join(
+        rt,
+        move ||
+            requires { (each * 2 ≤ first.layout.items) × (first.seen ≡ []) }
+            ensures { QueuedAsTold first result }
+        { queue_own(rt, first, 0, each, waker) },
+        move ||
+            requires { (each * 2 ≤ second.layout.items) × (second.seen ≡ []) }
+            ensures { QueuedAsTold second result }
+        { queue_own(rt, second, each, each * 2, waker) },
+    );
+    Both { first, second }
 }
 
 /// Queues the stop item, behind all that the sender queued.

@@ -4,10 +4,10 @@ ghost use Rattle.wq_live.specs.History.{accepted, begun, ended};
 ghost use Rattle.wq_live.specs.Legal.{IsComplete};
 ghost use Rattle.wq_live.specs.Seen.{own};
 ghost use Rattle.wq_live.specs.Known.{IsSame, new_sender, new_owner};
-ghost use Rattle.example_threads.specs.Met.{IsHistoryOf};
+ghost use Rattle.example_threads.specs.Met.{IsHistoryOf, QueuedAsTold};
 
 use crate::executing::execute_all;
-use crate::queueing::{Told, queue_own, stop};
+use crate::queueing::{Both, Told, queue_both, queue_own, stop};
 use crate::waking::{Waker, WakesOn};
 use crossbeam_utils::sync::Parker;
 use std::alloc::Global;
@@ -22,6 +22,14 @@ struct Senders {
     first: Sender,
     second: Sender,
     third: Sender,
+}
+
+/// The senders, with what each of them queued.
+#[derive(Drop)]
+struct Three {
+    first: Told,
+    second: Told,
+    third: Told,
 }
 
 /// The owner and the senders, which have met.
@@ -59,18 +67,12 @@ fn meet(first: &mut Sender, second: &mut Sender, third: &mut Sender, owner: &mut
 }
 
 /// The senders queue so many items each, of their own, in three threads. When they have ended, the third queues the stop item.
-fn queue_all<R: Threads + Wait + Sync>(
-    rt: &R,
-    senders: Senders,
-    each: u32,
-    waker: &Waker,
-) -> ((Told, Told), Told)
+fn queue_all<R: Threads + Wait + Sync>(rt: &R, senders: Senders, each: u32, waker: &Waker) -> Three
     requires items { (each * 3 ≤ senders.first.layout.items) × (each * 3 ≤ senders.second.layout.items) × (each * 3 ≤ senders.third.layout.items) }
     requires new { (senders.first.seen ≡ []) × (senders.second.seen ≡ []) × (senders.third.seen ≡ []) }
-    ensures first { IsSame senders.first result.0.0.sender × (accepted (own senders.first.number result.0.0.sender.seen) ≡ result.0.0.queued.items) }
-    ensures second { IsSame senders.second result.0.1.sender
-        × (accepted (own senders.second.number result.0.1.sender.seen) ≡ result.0.1.queued.items) }
-    ensures third { IsSame senders.third result.1.sender × (accepted (own senders.third.number result.1.sender.seen) ≡ result.1.queued.items) }
+    ensures first { QueuedAsTold senders.first result.first }
+    ensures second { QueuedAsTold senders.second result.second }
+    ensures third { QueuedAsTold senders.third result.third }
 {
     let Senders {
         first,
@@ -81,27 +83,19 @@ fn queue_all<R: Threads + Wait + Sync>(
         rt,
         move ||
             requires { (each * 3 ≤ first.layout.items) × (each * 3 ≤ second.layout.items) × (first.seen ≡ []) × (second.seen ≡ []) }
-            ensures { IsSame first result.0.sender × (accepted (own first.number result.0.sender.seen) ≡ result.0.queued.items)
-                × IsSame second result.1.sender × (accepted (own second.number result.1.sender.seen) ≡ result.1.queued.items) }
-        {
-            join(
-                rt,
-                move ||
-                    requires { (each * 3 ≤ first.layout.items) × (first.seen ≡ []) }
-                    ensures { IsSame first result.sender × (accepted (own first.number result.sender.seen) ≡ result.queued.items) }
-                { queue_own(rt, first, 0, each, waker) },
-                move ||
-                    requires { (each * 3 ≤ second.layout.items) × (second.seen ≡ []) }
-                    ensures { IsSame second result.sender × (accepted (own second.number result.sender.seen) ≡ result.queued.items) }
-                { queue_own(rt, second, each, each * 2, waker) },
-            )
-        },
+            ensures { QueuedAsTold first result.first × QueuedAsTold second result.second }
+        { queue_both(rt, first, second, each, waker) },
         move ||
             requires { (each * 3 ≤ third.layout.items) × (third.seen ≡ []) }
-            ensures { IsSame third result.sender × (accepted (own third.number result.sender.seen) ≡ result.queued.items) }
+            ensures { QueuedAsTold third result }
         { queue_own(rt, third, each * 2, each * 3, waker) },
     );
-    (both, stop(last, waker))
+    let Both { first, second } = both;
+    Three {
+        first,
+        second,
+        third: stop(last, waker),
+    }
 }
 
 /// The owner executes while the senders queue. When the stop item ran, it closes the queue, and all four meet.
@@ -121,7 +115,7 @@ fn queue_and_execute<R: Threads + Wait + Sync>(
     ensures layout { result.owner.layout ≡ owner.layout }
     ensures history { IsHistoryOf result.owner.layout result.owner.seen result }
 {
-    let (mut owner, ((mut first, mut second), mut third)) = join(
+    let (mut owner, queued) = join(
         rt,
         move ||
             requires { owner.seen ≡ [] }
@@ -134,11 +128,14 @@ fn queue_and_execute<R: Threads + Wait + Sync>(
         move ||
             requires { (each * 3 ≤ senders.first.layout.items) × (each * 3 ≤ senders.second.layout.items) × (each * 3 ≤ senders.third.layout.items)
                 × (senders.first.seen ≡ []) × (senders.second.seen ≡ []) × (senders.third.seen ≡ []) }
-            ensures { IsSame senders.first result.0.0.sender × (accepted (own senders.first.number result.0.0.sender.seen) ≡ result.0.0.queued.items)
-                × IsSame senders.second result.0.1.sender × (accepted (own senders.second.number result.0.1.sender.seen) ≡ result.0.1.queued.items)
-                × IsSame senders.third result.1.sender × (accepted (own senders.third.number result.1.sender.seen) ≡ result.1.queued.items) }
+            ensures { QueuedAsTold senders.first result.first × QueuedAsTold senders.second result.second × QueuedAsTold senders.third result.third }
         { queue_all(rt, senders, each, waker) },
     );
+    let Three {
+        mut first,
+        mut second,
+        mut third,
+    } = queued;
     meet(
         &mut first.sender,
         &mut second.sender,

@@ -4,22 +4,23 @@ ghost use Rattle.wq_worker.specs.History.{accepted, ended, IsShut};
 ghost use Rattle.wq_worker.specs.Legal.{IsLegal, IsComplete};
 ghost use Rattle.wq_worker.specs.Headline.{KeepsHeadline};
 ghost use Rattle.wq_worker.specs.Seen.{own};
-ghost use Rattle.wq_worker.specs.Known.{IsSame, new_sender};
+ghost use Rattle.wq_worker.specs.Known.{new_sender};
 ghost use Rattle.wq_worker.specs.Book.{IsLedgerOf};
 ghost use Rattle.wq_worker.specs.State.{IsSameWorker, items_among};
-ghost use Rattle.example_threads.specs.Met.{TellsOwn};
+ghost use Rattle.example_threads.specs.Met.{TellsOwn, QueuedAsTold};
 
 use crate::one_worker::Runs;
-use crate::queueing::{Told, queue_own, stop};
+use crate::queueing::{Both, Told, queue_both, stop};
 use crate::waking::{Waker, WakesOn};
 use crossbeam_utils::sync::Parker;
-use std::alloc::Global;
+use std::alloc::{AllocError, Global};
 use std::sync::Wait;
 use std::thread::{Threads, join};
+use thiserror::Error;
 use trail::Trail;
 use wq_live::Sender;
 use wq_words::Layout;
-use wq_worker::{Book, Ledger, Totals, Unbalanced, Worker};
+use wq_worker::{Book, Ledger, Totals, Unbalanced, Unbuilt, Worker};
 
 /// The work and the book of a queue that was destroyed, its two senders, which have met the book, and the sums of all counts.
 #[derive(Drop)]
@@ -32,41 +33,49 @@ pub struct Served {
 }
 
 /// Why nothing was served to its end.
-#[derive(Clone, Copy, Debug, PartialEq, Eq)]
+#[derive(Clone, Copy, Debug, PartialEq, Eq, Error)]
 pub enum Unserved {
     /// Memory could not be had.
+    #[error("no memory")]
     Memory,
     /// So many numbers were left when the destroy came to its limit.
+    #[error("{0} left at the limit")]
     Left(u32),
     /// The ledgers do not balance: a count is saturated.
-    Unbalanced(Unbalanced),
+    #[error("{0}")]
+    Unbalanced(#[from] Unbalanced),
+}
+
+impl From<AllocError> for Unserved {
+    fn from(_error: AllocError) -> Unserved {
+        Unserved::Memory
+    }
+}
+
+impl From<Unbuilt<Runs>> for Unserved {
+    fn from(_unbuilt: Unbuilt<Runs>) -> Unserved {
+        Unserved::Memory
+    }
 }
 
 /// Two senders queue so many items each, of their own, in two threads. When both have ended, the second queues the stop item.
-fn queue_both<R: Threads + Wait + Sync>(
+fn queue_and_stop<R: Threads + Wait + Sync>(
     rt: &R,
     first: Sender,
     second: Sender,
     each: u32,
     waker: &Waker,
-) -> (Told, Told)
+) -> Both
     requires items { (each * 2 ≤ first.layout.items) × (each * 2 ≤ second.layout.items) }
     requires new { (first.seen ≡ []) × (second.seen ≡ []) }
-    ensures first { IsSame first result.0.sender × (accepted (own first.number result.0.sender.seen) ≡ result.0.queued.items) }
-    ensures second { IsSame second result.1.sender × (accepted (own second.number result.1.sender.seen) ≡ result.1.queued.items) }
+    ensures first { QueuedAsTold first result.first }
+    ensures second { QueuedAsTold second result.second }
 {
-    let (first, second) = join(
-        rt,
-        move ||
-            requires { (each * 2 ≤ first.layout.items) × (first.seen ≡ []) }
-            ensures { IsSame first result.sender × (accepted (own first.number result.sender.seen) ≡ result.queued.items) }
-        { queue_own(rt, first, 0, each, waker) },
-        move ||
-            requires { (each * 2 ≤ second.layout.items) × (second.seen ≡ []) }
-            ensures { IsSame second result.sender × (accepted (own second.number result.sender.seen) ≡ result.queued.items) }
-        { queue_own(rt, second, each, each * 2, waker) },
-    );
-    (first, stop(second, waker))
+    let Both { first, second } = queue_both(rt, first, second, each, waker);
+    Both {
+        first,
+        second: stop(second, waker),
+    }
 }
 
 /// Serves until the stop item ran.
@@ -110,16 +119,14 @@ fn finish(worker: Worker<Runs>, mut first: Told, mut second: Told) -> Result<Ser
     let one = book.meet(&mut first.sender);
     let other = book.meet(&mut second.sender);
     book.legal();
-    match balance(&book, one, other) {
-        Ok(totals) => Ok(Served {
-            work,
-            book,
-            first,
-            second,
-            totals,
-        }),
-        Err(fault) => Err(Unserved::Unbalanced(fault)),
-    }
+    let totals = balance(&book, one, other)?;
+    Ok(Served {
+        work,
+        book,
+        first,
+        second,
+        totals,
+    })
 }
 
 /// The worker serves in a thread, and beside it the senders queue in theirs. When both have ended, the stop item follows.
@@ -131,14 +138,14 @@ fn serve_beside<R: Threads + Wait + Sync>(
     each: u32,
     parker: Parker,
     waker: &Waker,
-) -> (Worker<Runs>, (Told, Told))
+) -> (Worker<Runs>, Both)
     requires items { each * 2 ≤ worker.layout.items }
     requires open { ¬ IsShut worker.seen }
     requires first { first ≡ new_sender worker.queue worker.layout 0 }
     requires second { second ≡ new_sender worker.queue worker.layout 1 }
     ensures same { IsSameWorker worker result.0 }
-    ensures first { TellsOwn result.0.queue 0 result.1.0 }
-    ensures second { TellsOwn result.0.queue 1 result.1.1 }
+    ensures first { TellsOwn result.0.queue 0 result.1.first }
+    ensures second { TellsOwn result.0.queue 1 result.1.second }
 {
     join(
         rt,
@@ -148,9 +155,8 @@ fn serve_beside<R: Threads + Wait + Sync>(
         { serve(rt, worker, &parker) },
         move ||
             requires { (each * 2 ≤ first.layout.items) × (each * 2 ≤ second.layout.items) × (first.seen ≡ []) × (second.seen ≡ []) }
-            ensures { IsSame first result.0.sender × (accepted (own first.number result.0.sender.seen) ≡ result.0.queued.items)
-                × IsSame second result.1.sender × (accepted (own second.number result.1.sender.seen) ≡ result.1.queued.items) }
-        { queue_both(rt, first, second, each, waker) },
+            ensures { QueuedAsTold first result.first × QueuedAsTold second result.second }
+        { queue_and_stop(rt, first, second, each, waker) },
     )
 }
 
@@ -176,26 +182,19 @@ pub fn run_served<R: Threads + Wait + Sync>(
     ensures of_second { IfOk result (λ r. accepted (own 1 r.book.seen) ≡ r.second.queued.items) }
     ensures balance { IfOk result (λ r. r.totals.queued + r.totals.chained ≡ r.totals.executed) }
 {
-    let Ok(parker) = Parker::new(alloc) else {
-        return Err(Unserved::Memory);
-    };
-    let Ok(unparker) = parker.unparker().clone() else {
-        return Err(Unserved::Memory);
-    };
+    let parker = Parker::new(alloc)?;
     let waker = Waker {
-        unparker,
+        unparker: parker.unparker().clone()?,
         on: WakesOn::EmptyList,
     };
     let work = Runs { ran: Trail::new() };
-    let Ok((worker, mut senders)) = Worker::build(alloc, layout, work, 1) else {
-        return Err(Unserved::Memory);
-    };
+    let (worker, mut senders) = Worker::build(alloc, layout, work, 1)?;
     let Some(second) = senders.pop() else {
         unreachable!()
     };
     let Some(first) = senders.pop() else {
         unreachable!()
     };
-    let (worker, (first, second)) = serve_beside(rt, worker, first, second, each, parker, &waker);
-    finish(worker, first, second)
+    let (worker, queued) = serve_beside(rt, worker, first, second, each, parker, &waker);
+    finish(worker, queued.first, queued.second)
 }
