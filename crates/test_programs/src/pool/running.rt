@@ -1,7 +1,8 @@
 //! When a run of a pool ends.
 use crate::expect::expect_same;
 use crate::pool::team::{
-    Guest, Logging, Open, empty, filled, finish_unfinished, new_pool, queue_item, to_stop, work,
+    Guest, Logging, Open, empty, filled, finish_unfinished, new_pool, new_pool_for, queue_item,
+    take_last, to_stop, work,
 };
 use std::alloc::Global;
 use std::process::Abort;
@@ -103,6 +104,22 @@ fn restless_queue_ends(rt: HostRuntime) {
         let (_pool, queue, left) = finish_unfinished(&rt, pool, 0);
         expect_same(&rt, (others, queue, left), (others, 0, 1));
     }
+}
+
+/// A run after one that has ended returns at once, since each stop item has run: what is announced since is left.
+#[test]
+fn second_run_leaves_what_is_announced(rt: HostRuntime) {
+    let (served, mut sender) = filled(&rt, rt.alloc(), 0);
+    sender.request_stop(1);
+    let mut queues = Vec::new(rt.alloc());
+    queues.push(served).expect(&rt, "memory");
+    let (pool, caller, mut callers) = new_pool_for(&rt, rt.alloc(), queues, 1);
+    let other = take_last(&rt, &pool, &mut callers);
+    run_alone(&rt, Guest::new(&pool, caller), 1);
+    queue_item(&rt, &mut sender, 0);
+    run_alone(&rt, Guest::new(&pool, other), 1);
+    let (_pool, queue, left) = finish_unfinished(&rt, pool, 0);
+    expect_same(&rt, (queue, left), (0, 1));
 }
 
 /// With no worker nothing is run, and the call returns.
