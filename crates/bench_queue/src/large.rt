@@ -135,13 +135,13 @@ fn worker_and_sender(
     }
 }
 
-/// The work and the book of a worker, when all that is left has run.
+/// The book of a worker, when all that is left has run.
 fn destroyed(worker: Worker<Runs>) -> Result<Book, Refusal>
     ensures { IfOk result (λ book. book.queue ≡ worker.queue) }
 {
     match worker.destroy(u32::MAX) {
         Ok((_work, book)) => Ok(book),
-        Err(_unfinished) => Err(Refusal::Memory),
+        Err(_unfinished) => Err(Refusal::Unfinished),
     }
 }
 
@@ -152,7 +152,7 @@ fn balance(book: &mut Book, sender: &mut Sender) -> Result<(), Refusal>
     let ledger = book.meet(sender);
     match book.balance(&[ledger]) {
         Ok(_totals) => Ok(()),
-        Err(_unbalanced) => Err(Refusal::Memory),
+        Err(_unbalanced) => Err(Refusal::Unbalanced),
     }
 }
 

@@ -16,9 +16,16 @@ pub enum Plan {
     /// A load that a worker serves.
     Serve(Load),
     /// One item, queued so often to a worker that serves at a pace, with so many microseconds before.
-    Lone(u32, u32, Pace),
+    Lone {
+        rounds: u32,
+        micros: u32,
+        pace: Pace,
+    },
     /// So many items of a delay table, and so many rounds over them.
-    Delays(u32, u32),
+    Delays {
+        items: u32,
+        rounds: u32,
+    },
     /// So many items of one queue, all of which each call goes over.
     Large(u32),
     /// A load that a pool's workers serve.
@@ -85,12 +92,16 @@ impl Plan {
         match name.as_str() {
             "serve" => Ok(Plan::Serve(Load::read(rest, pace)?)),
             "lone" => {
-                let [count, micros, ..] = numbers(rest, 2)?;
-                Ok(Plan::Lone(count, micros, pace))
+                let [rounds, micros, ..] = numbers(rest, 2)?;
+                Ok(Plan::Lone {
+                    rounds,
+                    micros,
+                    pace,
+                })
             }
             "delays" => {
                 let [items, rounds, ..] = numbers(rest, 2)?;
-                Ok(Plan::Delays(items, rounds))
+                Ok(Plan::Delays { items, rounds })
             }
             "large" => {
                 let [items, ..] = numbers(rest, 1)?;

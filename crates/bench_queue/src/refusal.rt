@@ -21,9 +21,12 @@ pub enum Refusal {
     /// No queue, or memory for the pool.
     #[error("pool: {0}")]
     Pool(#[from] PoolError),
-    /// A pool that could not be taken apart.
+    /// A pool that could not be taken apart, or a worker whose destroy came to its limit.
     #[error("a queue has not run to its end")]
     Unfinished,
+    /// The counts of a worker's senders do not add up to what was executed.
+    #[error("the ledgers do not balance")]
+    Unbalanced,
     /// What a checker is told is legal, and it says that it is not.
     #[error("not legal")]
     NotLegal,
