@@ -14,7 +14,7 @@ use wq_plan::{Plan, Serving, Team, queue_all, queue_item, run_team, stop};
 use wq_pool_plan::{Raced, run_teams};
 
 /// How often it is looked whether the worker has begun an item.
-const LOOKS: u32 = 1_000_000;
+const LOOKS: u32 = 20_000_000;
 
 const PLAN: Plan = Plan {
     queues: 1,

@@ -1,18 +1,21 @@
 //! As many workers of a pool as are wanted run at the same time.
+ghost use Rattle.wq_ready.specs.Known.{IsCallerOf};
+
 use crate::expect::expect_same;
-use crate::pool::team::{GuestOf, new_pool_for, to_stop};
+use crate::pool::team::{Guest, GuestOf, Logging, new_pool_for, take_last, to_stop};
 use crate::pool::values::to_stop_with_values;
 use std::alloc::Global;
 use std::process::Abort;
+use std::slice;
 use std::sync::Wait;
 use std::sync::atomic::AtomicU64;
 use std::sync::atomic::Ordering::SeqCst;
-use std::thread::{Threads, yield_now};
-use wq_pool::{Gate, ServedOf};
+use std::thread::{Threads, join, yield_now};
+use wq_pool::{Caller, Gate, Pool, ServedOf};
 use wq_worker::Station;
 
 /// So often a queue looks what the others do.
-const LOOKS: u32 = 1_000_000;
+const LOOKS: u32 = 20_000_000;
 
 /// Before the item of each of three queues it waits until all three are there, and counts the queues to which that came.
 #[derive(Drop)]
@@ -61,6 +64,7 @@ impl Gate for Meeting {
 /// Before an item of queue 0 it waits until one of queue 1 has ended, and notes whether that came.
 #[derive(Drop)]
 struct Waiting {
+    waits: AtomicU64,
     ended: AtomicU64,
     came: AtomicU64,
 }
@@ -68,12 +72,25 @@ struct Waiting {
 impl Waiting {
     fn new() -> Waiting {
         Waiting {
+            waits: AtomicU64::new(0),
             ended: AtomicU64::new(0),
             came: AtomicU64::new(0),
         }
     }
 
+    /// Whether an item of queue 0 waits, within so many looks.
+    fn does_wait(&self) -> bool {
+        for _ in 0..LOOKS {
+            if self.waits.load(SeqCst) > 0 {
+                return true;
+            }
+            yield_now();
+        }
+        false
+    }
+
     fn wait(&self) {
+        self.waits.store(1, SeqCst);
         for _ in 0..LOOKS {
             if self.ended.load(SeqCst) > 0 {
                 self.came.store(1, SeqCst);
@@ -139,4 +156,50 @@ fn pool_two_workers_overlap(rt: HostRuntime) {
     let queues = to_stop_with_values(&rt, alloc, 2, 1);
     run_all(&rt, alloc, queues, 2, &value_gate);
     expect_same(&rt, value_gate.came.load(SeqCst), 1);
+}
+
+/// One worker runs the pool, and another joins by a run of its own while the first waits within an item.
+fn run_late<R: Abort + Threads + Wait + Sync>(
+    rt: &R,
+    pool: &Pool<Logging>,
+    mut first: Caller,
+    mut late: Caller,
+    gate: &Waiting,
+)
+    requires first { IsCallerOf pool.now.ready first }
+    requires late { IsCallerOf pool.now.ready late }
+{
+    let (one, other) = join(
+        rt,
+        ||
+            requires { IsCallerOf pool.now.ready first }
+        { pool.run(rt, slice::from_mut(&mut first), gate) },
+        ||
+            requires { IsCallerOf pool.now.ready late }
+        {
+            assert!(rt; gate.does_wait());
+            pool.run(rt, slice::from_mut(&mut late), gate)
+        },
+    );
+    one.expect(rt, "a thread");
+    other.expect(rt, "a thread");
+}
+
+/// Two runs at once: the worker of the second executes queue 1 while that of the first waits before the item of queue 0, and
+/// both end.
+#[test]
+fn pool_late_run_overlaps(rt: HostRuntime) {
+    let queues = to_stop(&rt, rt.alloc(), 2, 1);
+    let (pool, announcer, mut callers) = new_pool_for(&rt, rt.alloc(), queues, 2);
+    let late = take_last(&rt, &pool, &mut callers);
+    let first = take_last(&rt, &pool, &mut callers);
+    let mut guest = Guest::new(&pool, announcer);
+    for queue in 0..2u32 {
+        assert!(rt; guest.announce(&rt, queue));
+    }
+    let gate = Waiting::new();
+    run_late(&rt, &pool, first, late, &gate);
+    expect_same(&rt, gate.came.load(SeqCst), 1);
+    let finished = pool.finish(0).expect(&rt, "all finished");
+    expect_same(&rt, finished.len(), 2);
 }

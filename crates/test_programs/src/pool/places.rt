@@ -14,7 +14,7 @@ use wq_live::Sender;
 use wq_pool::{Caller, Gate, Pool};
 
 /// So often it is looked what the other thread has done.
-const LOOKS: u32 = 1_000_000;
+const LOOKS: u32 = 20_000_000;
 
 /// Whether the other thread came, within so many looks.
 fn has_come(flag: &AtomicU64) -> bool {

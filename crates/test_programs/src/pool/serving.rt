@@ -12,7 +12,7 @@ use wq_live::Sender;
 use wq_pool::{Caller, Pool, Served};
 
 /// So often it is looked whether a queue was served.
-const LOOKS: u32 = 1_000_000;
+const LOOKS: u32 = 20_000_000;
 
 const ROUNDS: u32 = 100;
 
