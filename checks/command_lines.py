@@ -103,6 +103,9 @@ ROWS = [
 # on a device that takes nothing: standard output alone, and standard error too
 FULL_OUTPUT = [(words, 1, b"output: Unwritable\n") for words in ("--help", "--version", "script a.wq", "live a.json", "check bad.trace", "steps --history b.steps")]
 FULL = [("race", 2), ("script none", 1), ("script a.wq", 1)]
+# to a pipe that nobody reads: an output that cannot be written, whatever the parent does with SIGPIPE; of standard error the status alone
+UNREAD_OUTPUT = [(words, 1, b"output: Unwritable\n") for words in ("script a.wq", "--help", "check bad.trace")]
+UNREAD_FAULTS = [("script none", 1), ("race", 2)]
 
 
 def stands(want, text):
@@ -127,6 +130,13 @@ class Runner:
             print(f"wqrun {words}: {got} and not {want}")
 
 
+def unread_pipe():
+    """The end to write to of a pipe whose other end is closed."""
+    reader, writer = os.pipe()
+    os.close(reader)
+    return writer
+
+
 def main(program):
     with tempfile.TemporaryDirectory() as folder, open("/dev/full", "wb") as full:
         for name, text in FILES.items():
@@ -138,6 +148,13 @@ def main(program):
             runner.hold(words, runner.run(words, stdout=full), (status, None, faults))
         for words, status in FULL:
             runner.hold(words, runner.run(words, stdout=full, stderr=full), (status, None, None))
+        pipe = unread_pipe()
+        for words, status, faults in UNREAD_OUTPUT:
+            for is_default in (True, False):
+                runner.hold(words, runner.run(words, stdout=pipe, restore_signals=is_default), (status, None, faults))
+        for words, status in UNREAD_FAULTS:
+            runner.hold(words, runner.run(words, stderr=pipe), (status, b"", None))
+        os.close(pipe)
     print(f"{runner.count} command lines, {runner.failed} failed")
     return 1 if runner.failed else 0
 
