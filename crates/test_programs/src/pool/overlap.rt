@@ -185,6 +185,16 @@ fn run_late<R: Abort + Threads + Wait + Sync>(
     other.expect(rt, "a thread");
 }
 
+/// Announces queues 0 and 1.
+fn announce_both<R: Abort + Wait>(rt: &R, pool: &Pool<Logging>, announcer: Caller)
+    requires { IsCallerOf pool.now.ready announcer }
+{
+    let mut guest = Guest::new(pool, announcer);
+    for queue in 0..2u32 {
+        assert!(rt; guest.announce(rt, queue));
+    }
+}
+
 /// Two runs at once: the worker of the second executes queue 1 while that of the first waits before the item of queue 0, and
 /// both end.
 #[test]
@@ -193,10 +203,7 @@ fn pool_late_run_overlaps(rt: HostRuntime) {
     let (pool, announcer, mut callers) = new_pool_for(&rt, rt.alloc(), queues, 2);
     let late = take_last(&rt, &pool, &mut callers);
     let first = take_last(&rt, &pool, &mut callers);
-    let mut guest = Guest::new(&pool, announcer);
-    for queue in 0..2u32 {
-        assert!(rt; guest.announce(&rt, queue));
-    }
+    announce_both(&rt, &pool, announcer);
     let gate = Waiting::new();
     run_late(&rt, &pool, first, late, &gate);
     expect_same(&rt, gate.came.load(SeqCst), 1);
