@@ -66,9 +66,11 @@ definitions:
 c-api: build
 	checks/c_api.sh $(PROGRAM)
 
-# The calls that take memory, with each allocation refused in turn, as the gate does; some minutes.
+# The calls that take memory, with each allocation refused in turn, as the gate does; a second, and the proof of the program that makes
+# them, which stands on nearly all crates. It wants a C compiler.
 memory:
-	checks/refused_memory.sh
+	cd crates/test_memory && rt run </dev/null
+	checks/refused_memory.sh crates/test_memory/out/test_memory
 
 # The wrong bodies that the gate leaves out: after a gate on the same machine half an hour on two processors, else an hour.
 wrong-bodies:
