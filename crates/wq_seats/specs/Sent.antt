@@ -51,6 +51,11 @@ ChecksBarrier barrier (Ok is_done) old new =
 ChecksBarrier barrier (Err error.NoBarrier) old new = (old.layout.barriers ≤ barrier) × (new ≡ old)
 ChecksBarrier barrier (Err _) old new = ⊥
 
+-- how long it gives way is time alone, of which nothing is said
+abbrev pub SetsSpins : Result (Unit {0}) SeatError → Known → Known → Type 0
+SetsSpins (Ok _) old new = new ≡ old
+SetsSpins (Err _) old new = ⊥
+
 abbrev pub TellsNumber : Result ℕ SeatError → Known → Type 0
 TellsNumber (Ok number) now = number ≡ now.number
 TellsNumber (Err _) now = ⊥
@@ -74,6 +79,9 @@ DidCheck item = BySender (ChecksItem item)
 
 abbrev pub DidCheckFlush : ℕ → Result Bool SeatError → Seat → Seat → Type 0
 DidCheckFlush barrier = BySender (ChecksBarrier barrier)
+
+abbrev pub DidSetSpins : Result (Unit {0}) SeatError → Seat → Seat → Type 0
+DidSetSpins = BySender SetsSpins
 
 abbrev pub DidTellNumber : Result ℕ SeatError → Seat → Type 0
 DidTellNumber = OfSender TellsNumber

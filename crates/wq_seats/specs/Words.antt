@@ -11,7 +11,7 @@ use Rattle.wq_seats.specs.declared.error.SeatError.TheVariants as error
 use Rattle.wq_seats.specs.declared.seat.Seat.{Seat}
 use Rattle.wq_seats.specs.declared.seat.Seat.TheVariants as seat
 use Rattle.wq_seats.specs.Made.{DidBuild, DidHandOut, DidRelease}
-use Rattle.wq_seats.specs.Sent.{DidQueue, DidFlush, DidStop, DidCheck, DidCheckFlush, DidTellNumber}
+use Rattle.wq_seats.specs.Sent.{DidQueue, DidFlush, DidStop, DidCheck, DidCheckFlush, DidSetSpins, DidTellNumber}
 use Rattle.wq_seats.specs.Owned.{DidTake, DidClose, DidDrain, DidResume, DidTellNext, DidTellWaiting, DidBegin, DidEnd, DidRest, DidChain, DidTellDone}
 
 abbrev pub error_code : SeatError → ℕ
@@ -90,6 +90,9 @@ SaidCheck item word old new = SaidAs truth_code (λ said. DidCheck item said old
 
 abbrev pub SaidCheckFlush : ℕ → ℕ → Seat → Seat → Type 0
 SaidCheckFlush barrier word old new = SaidAs truth_code (λ said. DidCheckFlush barrier said old new) word
+
+abbrev pub SaidSetSpins : ℕ → Seat → Seat → Type 0
+SaidSetSpins word old new = SaidAs success_code (λ said. DidSetSpins said old new) word
 
 abbrev pub SaidNumber : ℕ → Seat → Seat → Type 0
 SaidNumber word old new = SaidAs word_of_number (λ said. DidTellNumber said old × (new ≡ old)) word

@@ -2,11 +2,11 @@
 ghost use Rattle.std.specs.Prelude.{◌<◌};
 ghost use Rattle.wq_words.specs.Numbers.{barrier_number, stop_number};
 ghost use Rattle.wq_seats.specs.Sent.{HasAnswered, QueuesItem, QueuesBarrier, QueuesStop, ChecksItem, ChecksBarrier, DidQueue, DidFlush};
-ghost use Rattle.wq_seats.specs.Sent.{DidStop, DidCheck, DidCheckFlush, DidTellNumber, DidTellSent};
+ghost use Rattle.wq_seats.specs.Sent.{DidStop, DidCheck, DidCheckFlush, DidSetSpins, DidTellNumber, DidTellSent};
 
 use crate::error::SeatError;
 use crate::seat::Seat;
-use wq_live::{Answer, Sender, SenderCounts};
+use wq_live::{Answer, Sender, SenderCounts, Spins};
 
 fn answer_item(sender: &mut Sender, item: u32, tries: u32) -> Answer
     requires item { item < sender.old.layout.items }
@@ -143,6 +143,23 @@ pub fn request_stop(seat: &mut Seat, tries: u32) -> Result<Answer, SeatError>
 {
     match seat {
         Seat::Sender(sender) => queue_stop(sender, tries),
+        Seat::Vacant | Seat::Owner(_, _) => Err(SeatError::NotSender),
+    }
+}
+
+/// Sets how long the sender gives way after a lost exchange: twice as many `spin_loop`s as the count, then four times, then eight
+/// times as many. It is time alone: no clause speaks of it, and nothing that one sees has changed.
+///
+/// # Errors
+/// `NotSender`.
+pub fn set_spins(seat: &mut Seat, count: u32) -> Result<(), SeatError>
+    ensures did { DidSetSpins result seat.old seat.new }
+{
+    match seat {
+        Seat::Sender(sender) => {
+            sender.set_spins(Spins { count });
+            Ok(())
+        }
         Seat::Vacant | Seat::Owner(_, _) => Err(SeatError::NotSender),
     }
 }

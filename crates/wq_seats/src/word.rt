@@ -1,7 +1,7 @@
 //! The calls of a seat with their answers as words, for a caller in another language. A word has a code in its low 32 bits and,
 //! above them, a number where the answer has one; that of a count is the count.
 ghost use Rattle.wq_seats.specs.Words.{SaidBuild, SaidHandOut, SaidRelease, SaidQueue, SaidCheck, SaidFlush, SaidCheckFlush, SaidStop};
-ghost use Rattle.wq_seats.specs.Words.{SaidNumber, SaidTake, SaidClose, SaidDrain, SaidResume, SaidNext, SaidWaiting, SaidBegin, SaidEnd};
+ghost use Rattle.wq_seats.specs.Words.{SaidSetSpins, SaidNumber, SaidTake, SaidClose, SaidDrain, SaidResume, SaidNext, SaidWaiting, SaidBegin, SaidEnd};
 ghost use Rattle.std.specs.Prelude.{◌≡◌, get_or};
 ghost use Rattle.wq_seats.specs.Words.{SaidRest, SaidChain, SaidDone, counts_of_sender, counts_of_owner, SaidCount};
 
@@ -73,6 +73,14 @@ pub fn request_stop_word(seat: &mut Seat, tries: u32) -> u64
 {
     let said = sending::request_stop(seat, tries);
     answer_code(said)
+}
+
+/// `sending::set_spins`.
+pub fn set_spins_word(seat: &mut Seat, count: u32) -> u64
+    ensures said { SaidSetSpins result seat.old seat.new }
+{
+    let said = sending::set_spins(seat, count);
+    success_code(said)
 }
 
 /// `sending::number`.
