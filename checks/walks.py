@@ -21,6 +21,7 @@ CALLS = [
     ("flush_begin", "SaidFlush", ("barrier: u32", "tries: u32"), "Queues a barrier, with at most so many tries."),
     ("flush_done", "SaidCheckFlush", ("barrier: u32",), "Whether the barrier's PENDING bit is clear."),
     ("request_stop", "SaidStop", ("tries: u32",), "Queues the stop item, with at most so many tries."),
+    ("set_spins", "SaidSetSpins", ("count: u32",), "Sets how long the sender gives way after a lost exchange."),
     ("number", "SaidNumber", (), "The sender's number."),
     ("take", "SaidTake", (), "Takes all that stands on the list, and answers how many that is."),
     ("close", "SaidClose", (), "Closes the queue, takes all that stands on the list, and answers how many that is."),
@@ -35,6 +36,9 @@ CALLS = [
     ("is_done", "SaidDone", (), "Whether the queue is closed and has run to its end."),
     ("count", "SaidCount", ("which: u32",), "One of the seat's counts, which is the whole word."),
 ]
+
+# the words that say nothing of the call's numbers, which change time alone
+OF_TIME = {"SaidSetSpins"}
 
 HEAD = """//! The calls of a queue for a caller in C. Each but the two that tell how large a seat is takes the memory of a seat, which is the
 //! call's until it returns, and leaves a seat there. It answers a word: a code in the low 32 bits and, above them, a number where the
@@ -237,6 +241,11 @@ def imports(names):
     return "\n".join(f"use Rattle.wq_c.proofs.Steps.{{{line}}}" for line in lines + [line])
 
 
+def fact(said, numbers):
+    """What a call did, but for its word and its seats."""
+    return " ".join([said, *(() if said in OF_TIME else numbers)])
+
+
 def export(name, said, parameters, does):
     """The text of an export, in the layout of rt fmt."""
     given = ["at: *mut u8", *parameters]
@@ -245,7 +254,7 @@ def export(name, said, parameters, does):
         listed = "".join(f"\n    {it}," for it in given) + "\n"
     numbers = [it.split(":")[0] for it in parameters if it.endswith("u32")]
     arguments = ", ".join(["&mut *(at as *mut Seat)", *(it.split(":")[0] for it in parameters)])
-    return EXPORT.format(does=does, name=name, parameters=listed, said=" ".join([said, *numbers]), arguments=arguments)
+    return EXPORT.format(does=does, name=name, parameters=listed, said=fact(said, numbers), arguments=arguments)
 
 
 def walk(name, said, parameters, _does):
@@ -272,7 +281,7 @@ def walk(name, said, parameters, _does):
         spells=nested(["rawptr_vals", *(kind["spells"] for kind in kinds)]), tells=nested(["rawptr_Tells", *(kind["tells"] for kind in kinds)]),
         given=given, arguments=nested(["p", *xs]), values=nested(["rawptr_vals p", *values]), flat=" ∷ ".join(["ptr_val p", *filled("value"), "[]"]),
         typed=typed, passed=nested(["r", *xs]), passed_values=nested(["vptr b o ∷ []", *values]),
-        owned="".join(f"    {it} $ join ! $\n" for it in reversed(filled("owned"))), gets=gets, fact=" ".join([said, *numbers]),
+        owned="".join(f"    {it} $ join ! $\n" for it in reversed(filled("owned"))), gets=gets, fact=fact(said, numbers),
         units=nested(["tt"] * (len(kinds) + 1)), left="nothing ! $ " + " $ ".join(["nothing ! $ join !"] * (len(kinds) + 1)),
     )
 
@@ -280,7 +289,7 @@ def walk(name, said, parameters, _does):
 def texts():
     """Each file that is written, with its text."""
     saids = ["SaidHandOut", *(call[1] for call in CALLS)]
-    uses = "\n".join(f"ghost use Rattle.wq_seats.specs.Words.{{{', '.join(saids[at:at + 7])}}};" for at in range(0, len(saids), 7))
+    uses = "\n".join(f"ghost use Rattle.wq_seats.specs.Words.{{{', '.join(saids[at:at + 8])}}};" for at in range(0, len(saids), 8))
     yield CRATE / "src/lib.rt", HEAD % uses + "".join(export(*call) for call in CALLS)
     for call in CALLS:
         yield CRATE / f"proofs/wq_c_{call[0]}/Proof.antt", walk(*call)

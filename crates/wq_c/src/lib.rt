@@ -10,9 +10,9 @@
 ghost use Rattle.std.specs.Borrow.{full_share, sem};
 ghost use Rattle.std.specs.Ptr.{lies_at, room_at};
 ghost use base.Fml.{fex, fsep};
-ghost use Rattle.wq_seats.specs.Words.{SaidHandOut, SaidBuild, SaidRelease, SaidQueue, SaidCheck, SaidFlush, SaidCheckFlush};
-ghost use Rattle.wq_seats.specs.Words.{SaidStop, SaidNumber, SaidTake, SaidClose, SaidDrain, SaidResume, SaidNext};
-ghost use Rattle.wq_seats.specs.Words.{SaidWaiting, SaidBegin, SaidEnd, SaidRest, SaidChain, SaidDone, SaidCount};
+ghost use Rattle.wq_seats.specs.Words.{SaidHandOut, SaidBuild, SaidRelease, SaidQueue, SaidCheck, SaidFlush, SaidCheckFlush, SaidStop};
+ghost use Rattle.wq_seats.specs.Words.{SaidSetSpins, SaidNumber, SaidTake, SaidClose, SaidDrain, SaidResume, SaidNext, SaidWaiting};
+ghost use Rattle.wq_seats.specs.Words.{SaidBegin, SaidEnd, SaidRest, SaidChain, SaidDone, SaidCount};
 ghost use Rattle.wq_seats.specs.declared.seat.Seat.{Seat as Sitting};
 ghost use Rattle.wq_seats.specs.declared.seat.Seat.TheVariants.{Vacant};
 ghost use Rattle.wq_seats.specs.contracts.seat.Seat.{the_row as seat_row};
@@ -129,6 +129,16 @@ pub unsafe extern "C" fn wq_c_request_stop(at: *mut u8, tries: u32) -> u64
     ensures* { sem 𝓛 (fex Sitting (λ new. fex (SaidStop tries result old new) (λ _. lies_at seat_row full_share at new))) }
 {
     wq_seats::word::request_stop_word(&mut *(at as *mut Seat), tries)
+}
+
+/// Sets how long the sender gives way after a lost exchange.
+#[unsafe(no_mangle)]
+pub unsafe extern "C" fn wq_c_set_spins(at: *mut u8, count: u32) -> u64
+    ghost old: { Sitting }
+    requires* { sem 𝓛 (lies_at seat_row full_share at old) }
+    ensures* { sem 𝓛 (fex Sitting (λ new. fex (SaidSetSpins result old new) (λ _. lies_at seat_row full_share at new))) }
+{
+    wq_seats::word::set_spins_word(&mut *(at as *mut Seat), count)
 }
 
 /// The sender's number.
