@@ -45,7 +45,7 @@ timeout 60 "$work/threads" 2000
 built threads -DWQ_UNCHECKED
 timeout 60 "$work/threads" 500 >"$work/said"
 built contended
-timeout 60 "$work/contended"
+timeout 60 "$work/contended" pauses
 built misuse
 timeout 60 "$work/misuse"
 built worker

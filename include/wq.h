@@ -14,6 +14,7 @@
 #define WQ_H
 #include <stddef.h>
 #include <stdint.h>
+#include <time.h>
 
 #ifdef __cplusplus
 extern "C" {
@@ -90,6 +91,7 @@ uint64_t wq_c_is_pending(void *at, uint32_t item);
 uint64_t wq_c_flush_begin(void *at, uint32_t barrier, uint32_t tries);
 uint64_t wq_c_flush_done(void *at, uint32_t barrier);
 uint64_t wq_c_request_stop(void *at, uint32_t tries);
+uint64_t wq_c_set_spins(void *at, uint32_t count);
 uint64_t wq_c_number(void *at);
 uint64_t wq_c_take(void *at);
 uint64_t wq_c_close(void *at);
@@ -222,7 +224,28 @@ static inline uint32_t wq_flush_done(wq_seat *sender, uint32_t barrier) {
     WQ_CALL(sender, WQ_NO_NUMBER, wq_c_flush_done(sender->room, barrier));
 }
 static inline uint32_t wq_request_stop(wq_seat *sender) { WQ_CALL(sender, WQ_NO_NUMBER, wq_c_request_stop(sender->room, WQ_MOST_TRIES)); }
+/* How long the sender gives way after a lost exchange: twice as many pauses as the count, then four times, then eight times as many.
+ * The count is 128 where nobody sets it. It is time alone, of which no proof says anything. */
+static inline uint32_t wq_set_spins(wq_seat *sender, uint32_t count) { WQ_CALL(sender, WQ_NO_NUMBER, wq_c_set_spins(sender->room, count)); }
 static inline uint32_t wq_number(wq_seat *sender, uint32_t *number) { WQ_CALL(sender, number, wq_c_number(sender->room)); }
+
+/* How many pauses pass in three quarters of a microsecond, from 8 to 512: the count for wq_set_spins, and for an owner whose take found
+ * little. Call it once, before other threads start: clock() counts the time of all threads of the program, so it finds fewer where
+ * others run. It takes a third of a millisecond, 3 where a pause takes 45 nanoseconds, and answers 128 where clock() tells no time so
+ * short. */
+static inline uint32_t wq_measured_spins(void) {
+    uint64_t least = UINT64_MAX, count; /* the least time is the one in which no other work came between */
+    for (int timed = 0; timed < 8; timed++) {
+        clock_t start = clock();
+        uint64_t spent;
+        for (int turn = 0; turn < 8192; turn++) __builtin_ia32_pause();
+        spent = (uint64_t)(clock() - start);
+        if (spent < least) least = spent;
+    }
+    if (least == 0) return 128;
+    count = 8192 * 3 / 4 * (uint64_t)CLOCKS_PER_SEC / 1000000 / least;
+    return count < 8 ? 8 : count > 512 ? 512 : (uint32_t)count;
+}
 
 /* ---- the owner; a number is written only where the code is WQ_OK */
 static inline uint32_t wq_take(wq_seat *owner, uint32_t *count) { WQ_CALL(owner, count, wq_c_take(owner->room)); }

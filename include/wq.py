@@ -108,8 +108,8 @@ _library = ctypes.CDLL(os.environ.get("YEANGVOS_LIBRARY") or "libyeangvos.so.1")
 _library.wq_c_seat_size.restype = _library.wq_c_seat_align.restype = ctypes.c_size_t
 if ALIGNMENT % _library.wq_c_seat_align():  # wq_init answers WQ_SEAT_SIZE; a seat's size is asked for each one
     raise ImportError(f"a seat of {_library._name} is aligned by {_library.wq_c_seat_align()}, and not by {ALIGNMENT}")
-for _name in ("build hand_out release queue is_pending flush_begin flush_done request_stop number take close drain resume next waiting begin "
-              "end rest chain is_done count").split():
+for _name in ("build hand_out release queue is_pending flush_begin flush_done request_stop set_spins number take close drain resume next "
+              "waiting begin end rest chain is_done count").split():
     getattr(_library, "wq_c_" + _name).restype = ctypes.c_uint64
 
 
@@ -226,6 +226,10 @@ class Seat:
 
     def request_stop(self, tries=MOST_TRIES):
         return self._call("request_stop", tries=tries)[0]
+
+    def set_spins(self, count):
+        """How long it gives way after a lost exchange: twice as many pauses as the count, then four times, then eight times as many."""
+        self._call("set_spins", count=count)
 
     def number(self):
         return self._call("number")[1]

@@ -24,6 +24,7 @@ assert refused(owner.release) == Error.NOT_DONE and refused(senders[0].queue, TH
 
 def feed(sender):
     number = sender.number()
+    assert sender.set_spins(64 * number) is None
     for item in range(number * OWN, (number + 1) * OWN):
         code = sender.queue(item)
         assert code.is_queued

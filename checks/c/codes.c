@@ -16,6 +16,7 @@ static void before_a_queue(void) {
     CHECK(wq_init(&owner) == WQ_OK && wq_init(&one) == WQ_OK && wq_init(&two) == WQ_OK);
     CHECK(wq_queue(&one, 0) == WQ_NOT_SENDER && wq_is_pending(&one, 0) == WQ_NOT_SENDER && wq_request_stop(&one) == WQ_NOT_SENDER);
     CHECK(wq_flush_begin(&one, 0) == WQ_NOT_SENDER && wq_flush_done(&one, 0) == WQ_NOT_SENDER && wq_number(&one, &n) == WQ_NOT_SENDER);
+    CHECK(wq_set_spins(&one, 128) == WQ_NOT_SENDER);
     CHECK(wq_take(&one, &n) == WQ_NOT_OWNER && wq_close(&one, &n) == WQ_NOT_OWNER && wq_drain(&one, &n) == WQ_NOT_OWNER);
     CHECK(wq_resume(&one) == WQ_NOT_OWNER && wq_next(&one, &n) == WQ_NOT_OWNER && wq_waiting(&one, &n) == WQ_NOT_OWNER);
     CHECK(wq_begin(&one, &n) == WQ_NOT_OWNER && wq_end(&one) == WQ_NOT_OWNER && wq_rest(&one) == WQ_NOT_OWNER);
@@ -34,10 +35,12 @@ static void handing_out(void) {
     CHECK(wq_build(&one, 4, 1, 1) == WQ_IN_USE && wq_hand_out(&one, &two) == WQ_NOT_OWNER);
     CHECK(wq_number(&one, &n) == WQ_OK && n == 0 && wq_number(&owner, &n) == WQ_NOT_SENDER);
     CHECK(wq_queue(&owner, 0) == WQ_NOT_SENDER && wq_take(&one, &n) == WQ_NOT_OWNER);
+    CHECK(wq_set_spins(&owner, 128) == WQ_NOT_SENDER);
     CHECK(wq_rest(&owner) == WQ_NO); /* a new queue rests already */
 }
 
 static void sending(void) {
+    CHECK(wq_set_spins(&one, UINT32_MAX) == WQ_OK && wq_set_spins(&one, 0) == WQ_OK); /* and all goes on as it did */
     CHECK(wq_queue(&one, 4) == WQ_NO_ITEM && wq_queue(&one, UINT32_MAX) == WQ_NO_ITEM && wq_queue_tries(&one, 4, 0) == WQ_NO_ITEM);
     CHECK(wq_queue_tries(&one, 0, 0) == WQ_NO_TRIES && wq_is_pending(&one, 0) == WQ_NO && wq_is_pending(&one, 4) == WQ_NO_ITEM);
     CHECK(wq_queue(&one, 2) == (WQ_QUEUED | WQ_FIRST | WQ_WAKES) && wq_queue(&one, 2) == WQ_PENDING);
@@ -68,6 +71,7 @@ static void executing(void) {
 
 static void draining(void) {
     uint32_t n = 77;
+    CHECK(wq_set_spins(&one, 512) == WQ_OK);
     CHECK(wq_queue(&one, 1) == (WQ_QUEUED | WQ_FIRST) && wq_drain(&owner, &n) == WQ_OK && n == 1);
     CHECK(wq_drain(&owner, &n) == WQ_IS_DRAINING && wq_take(&owner, &n) == WQ_IS_DRAINING && wq_rest(&owner) == WQ_IS_DRAINING);
     CHECK(wq_queue(&one, 2) == WQ_DRAINING && wq_is_pending(&one, 2) == WQ_NO && wq_resume(&owner) == WQ_SOME_WAIT);
@@ -105,6 +109,7 @@ static void closing(void) {
     counting();
     CHECK(wq_release(&owner) == WQ_OK && wq_release(&owner) == WQ_OK && wq_take(&owner, &n) == WQ_NOT_OWNER);
     CHECK(wq_queue(&one, 1) == WQ_CLOSED && wq_release(&one) == WQ_OK && wq_queue(&one, 1) == WQ_NOT_SENDER);
+    CHECK(wq_set_spins(&one, 512) == WQ_NOT_SENDER);
     CHECK(wq_build(&one, 1, 1, 1) == WQ_OK && wq_close(&one, &n) == WQ_OK && n == 0 && wq_release(&one) == WQ_OK);
 }
 
@@ -113,6 +118,14 @@ static void bits(void) {
     for (uint32_t code = 0; code < 256; code++) {
         CHECK(wq_is_queued(code) == (code == 1 || code == 3 || code == 5 || code == 7));
         CHECK(wq_wakes(code) == (code == 5 || code == 7));
+    }
+}
+
+/* They count time, so nothing but their bounds is the same each time. */
+static void spins(void) {
+    for (int i = 0; i < 4; i++) {
+        uint32_t count = wq_measured_spins();
+        CHECK(count >= 8 && count <= 512);
     }
 }
 
@@ -131,6 +144,7 @@ int main(void) {
     draining();
     closing();
     bits();
+    spins();
     names();
     puts("codes: each as it is said");
     return 0;

@@ -1,14 +1,16 @@
-/* A sender queues items with one try each, and the signal of a timer comes between: in it another sender queues an item, and the owner
- * executes all that waits. Where it comes between a push's look at the head and its exchange, the try is lost; the item is not pending
- * then, and the next try queues it. So it is of a barrier and of the stop item. One thread does all of it, so it needs no second
- * processor. */
+/* contended [pauses]: a sender queues items with one try each, and the signal of a timer comes between: in it another sender queues an
+ * item, and the owner executes all that waits. Where it comes between a push's look at the head and its exchange, the try is lost; the
+ * item is not pending then, and the next try queues it. So it is of a barrier and of the stop item. With the word also that a sender
+ * passes as many pauses between two tries as it was told; the kit's other compiler leaves pauses out, which do nothing. One thread does
+ * all of it, so it needs no second processor. */
 #include "check.h"
 #include "wq.h"
 #include <signal.h>
+#include <string.h>
 #include <sys/time.h>
 #include <time.h>
 
-enum { OWN = 4000, WANTED = 100, WANTED_EACH = 20, MICROSECONDS = 50, SECONDS = 40 };
+enum { OWN = 4000, WANTED = 100, WANTED_EACH = 20, MICROSECONDS = 50, SECONDS = 40, MANY = 20000000 };
 
 static wq_seat owner, sender, other;
 static volatile uint64_t ran, others;
@@ -85,8 +87,26 @@ static void lose_tries(uint32_t (*once)(void)) {
     CHECK(wanted == 0);
 }
 
-int main(void) {
+/* How long a sender gives way is time alone, so only time tells it: a queueing with two tries that loses the first passes 40 million
+ * pauses before the second, and no other takes a twentieth of a second of the processor. */
+static void give_way(void) {
+    const clock_t long_time = CLOCKS_PER_SEC / 20;
+    clock_t spent = 0;
+    CHECK(wq_set_spins(&sender, MANY) == WQ_OK);
+    for (uint32_t turn = 0; spent < long_time && has_time(turn); turn++) {
+        clock_t start = clock();
+        uint32_t code = wq_queue_tries(&sender, turn % OWN, 2);
+        spent = clock() - start;
+        CHECK(code == WQ_CONTENDED || code == WQ_PENDING || wq_is_queued(code));
+        lost += code == WQ_CONTENDED;
+        queued += wq_is_queued(code) != 0;
+    }
+    CHECK(spent >= long_time);
+}
+
+int main(int argc, char **argv) {
     uint32_t n;
+    CHECK(argc == 1 || !strcmp(argv[1], "pauses"));
     late = time(NULL) + SECONDS;
     wq_counts sums = {0};
     CHECK(wq_init(&owner) == WQ_OK && wq_init(&sender) == WQ_OK && wq_init(&other) == WQ_OK);
@@ -98,6 +118,7 @@ int main(void) {
     CHECK(lost >= WANTED);
     lose_tries(flush_once);
     lose_tries(stop_once);
+    if (argc > 1) give_way();
     CHECK(signal(SIGALRM, SIG_IGN) != SIG_ERR);
     CHECK(wq_close(&owner, &n) == WQ_OK);
     execute_all();

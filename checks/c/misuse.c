@@ -33,7 +33,7 @@ int main(void) {
     uint32_t n, count, ran = 0;
     pthread_t ids[2];
     CHECK(wq_queue(&blank, 0) == WQ_NO_SEAT && wq_take(&blank, &n) == WQ_NO_SEAT && wq_build(&blank, 1, 1, 1) == WQ_NO_SEAT);
-    CHECK(wq_hand_out(&blank, &blank) == WQ_NO_SEAT);
+    CHECK(wq_hand_out(&blank, &blank) == WQ_NO_SEAT && wq_set_spins(&blank, 128) == WQ_NO_SEAT);
     memset(&blank, 0xff, sizeof blank);
     CHECK(wq_queue(&blank, 0) == WQ_NO_SEAT && wq_release(&blank) == WQ_NO_SEAT);
     CHECK(wq_init(&owner) == WQ_OK && wq_init(&shared) == WQ_OK);
@@ -42,7 +42,7 @@ int main(void) {
     CHECK(wq_queue(&copy, 0) == WQ_NO_SEAT && wq_release(&copy) == WQ_NO_SEAT);
     shared.held = 1; /* as while a call of another thread is in it */
     CHECK(wq_queue(&shared, 0) == WQ_SEAT_BUSY && wq_release(&shared) == WQ_SEAT_BUSY && wq_hand_out(&owner, &shared) == WQ_SEAT_BUSY);
-    CHECK(wq_hand_out(&shared, &shared) == WQ_SEAT_BUSY);
+    CHECK(wq_hand_out(&shared, &shared) == WQ_SEAT_BUSY && wq_set_spins(&shared, 128) == WQ_SEAT_BUSY);
     shared.held = 0;
     owner_is_refused();
     for (int i = 0; i < 2; i++) CHECK(pthread_create(&ids[i], NULL, both, &busy[i]) == 0);

@@ -48,6 +48,7 @@ def numbers():
     for call in (sender.flush_begin, sender.flush_done):
         raised(ValueError, "barrier is 4294967296", call, WIDE)
     raised(ValueError, "tries is 4294967296", sender.queue, 2, WIDE)
+    raised(ValueError, "count is 4294967296", sender.set_spins, WIDE)
     raised(ValueError, "tries is -1", sender.request_stop, -1)
     assert not sender.is_pending(2) and owner.take() == 0
     assert sender.queue(2) == Code.QUEUED | Code.FIRST
@@ -153,6 +154,7 @@ def ends():
         run_to_end(owner)
     raised(WqError, "NOT_OWNER", owner.take)
     raised(WqError, "NOT_SENDER", sender.number)
+    raised(WqError, "NOT_SENDER", sender.set_spins, 128)
     owner.build(1, 1, 1)
     raised(WqError, "NOT_DONE", owner.__exit__, None, None, None)
     try:

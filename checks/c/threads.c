@@ -61,6 +61,7 @@ int main(int argc, char **argv) {
     static wq_seat owner;
     pthread_t ids[SENDERS];
     int wake = eventfd(0, 0);
+    const uint32_t spins[SENDERS] = {0, 8, 512, wq_measured_spins()}; /* however long each gives way */
     uint64_t all = 0, sleeps = 0, woke = 0;
     uint32_t n;
     CHECK(argc == 2 && wake >= 0);
@@ -69,6 +70,7 @@ int main(int argc, char **argv) {
     for (int i = 0; i < SENDERS; i++) {
         CHECK(wq_init(&posts[i].seat) == WQ_OK && wq_hand_out(&owner, &posts[i].seat) == WQ_OK);
         CHECK(wq_number(&posts[i].seat, &posts[i].number) == WQ_OK && posts[i].number == (uint32_t)(SENDERS - 1 - i));
+        CHECK(wq_set_spins(&posts[i].seat, spins[i]) == WQ_OK);
         posts[i].wake = wake;
     }
     for (int i = 0; i < SENDERS; i++) CHECK(pthread_create(&ids[i], NULL, feed, &posts[i]) == 0);
