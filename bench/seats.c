@@ -3,7 +3,9 @@
 // senders one thread queues a slice and executes it in turn.
 //
 // `seats` is wq.h; `mutex` a mutex, a ring and a PENDING byte an item; `async`, where it is compiled with -DGLIB=1, a GAsyncQueue with
-// such bytes. After a short take the owner passes some time, as bench_queue does.
+// such bytes. After a short take the owner passes three quarters of a microsecond, as bench_queue does, and a sender of wq.h that lost
+// an exchange gives way by the same count of pauses: it is measured, since a pause takes 6 nanoseconds on some processors and 45 on
+// others, and all kinds pause alike.
 #include <inttypes.h>
 #include <pthread.h>
 #include <sched.h>
@@ -20,7 +22,6 @@
 
 #define TRIES 1000
 #define SHORT_TAKE 128
-#define PAUSE 128
 #define MOST_SENDERS 64
 
 enum answer { QUEUED, PENDING, REFUSED, CONTENDED };
@@ -36,6 +37,7 @@ struct queue {
 };
 
 static volatile uint64_t work;
+static uint32_t spins; // as many pauses as pass in three quarters of a microsecond
 
 static void spin(uint32_t turns) {
     for (uint32_t turn = 0; turn < turns; turn++) __builtin_ia32_pause();
@@ -48,7 +50,7 @@ static wq_seat owner, seats[MOST_SENDERS];
 static bool make_seats(uint32_t senders, uint32_t items) {
     if (wq_init(&owner) || wq_build(&owner, items, 1, senders)) return false;
     for (uint32_t at = senders; at-- > 0;)
-        if (wq_init(&seats[at]) || wq_hand_out(&owner, &seats[at])) return false;
+        if (wq_init(&seats[at]) || wq_hand_out(&owner, &seats[at]) || wq_set_spins(&seats[at], spins)) return false;
     return true;
 }
 
@@ -203,6 +205,7 @@ int main(int argc, char **argv) {
     uint64_t total = strtoull(argv[4], NULL, 10), done = 0, takes = 0, least = UINT64_MAX;
     pthread_t ids[MOST_SENDERS];
     slice = (uint32_t)atoi(argv[3]);
+    spins = wq_measured_spins();
     if (!queue.make || senders > MOST_SENDERS || !queue.make(most, most * slice)) return 2;
     uint64_t start = nanos();
     for (uint32_t at = 0; at < senders; at++)
@@ -213,7 +216,7 @@ int main(int argc, char **argv) {
         takes += count > 0;
         for (uint32_t at = 0; at < count; at++) queue.run();
         done += count;
-        if (senders && count < SHORT_TAKE) spin(PAUSE);
+        if (senders && count < SHORT_TAKE) spin(spins);
     }
     uint64_t spent = nanos() - start;
     atomic_store(&is_over, true);
