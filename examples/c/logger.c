@@ -27,7 +27,9 @@ static void write_line(int thread, int line) {
 static void *write_lines(void *given) {
     int thread = (int)((wq_seat *)given - senders);
     for (int line = 0; line < LINES / 2; line++) write_line(thread, line);
-    wq_worker_flush(&worker, &senders[thread], (uint32_t)thread); /* its lines are printed when this returns */
+    /* its lines are printed where this answers a queueing; a queue that drains or is closed refuses it and waits for nothing */
+    uint32_t code = wq_worker_flush(&worker, &senders[thread], (uint32_t)thread);
+    if (!wq_is_queued(code)) fprintf(stderr, "not flushed: %s\n", wq_code_name(code));
     return NULL;
 }
 
