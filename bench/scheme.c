@@ -3,7 +3,7 @@
 // of which the last is how many items the sender queued that queued fewest.
 //
 // It has the queue's own words and atomic steps, all sequentially consistent: hold, look, link, push; take, walk and turn; begin,
-// end. Compiled with -DKERNEL=1 it has the fewest that an ordered workqueue needs: a PENDING bit, a list that is pushed to
+// end. Compiled with -DFEWEST=1 it has the fewest that an ordered workqueue needs: a PENDING bit, a list that is pushed to
 // (`llist_add`), taken whole (`llist_del_all`) and turned round, and the bit cleared before each item runs; links are plain stores,
 // and nothing is counted. With 0 senders one thread queues a slice of items and executes it in turn. A `patient` owner passes
 // some time after a short take, and a sender some between two tries to push; the queue's own steps have the latter always.
@@ -17,12 +17,12 @@
 #include <string.h>
 #include <time.h>
 
-#ifndef KERNEL
-#define KERNEL 0
+#ifndef FEWEST
+#define FEWEST 0
 #endif
 
 #define CLOSED UINT64_MAX
-#define LINKING (KERNEL ? memory_order_relaxed : memory_order_seq_cst)
+#define LINKING (FEWEST ? memory_order_relaxed : memory_order_seq_cst)
 #define TRIES 1000
 #define SHORT_TAKE 128
 #define PAUSE 128
@@ -61,7 +61,7 @@ __attribute__((noinline)) static enum answer queue_try(struct queue *queue, uint
     }
     enum answer answer = CONTENDED;
     uint32_t spins = FIRST_SPINS;
-    for (uint32_t turn = 0; KERNEL || turn < TRIES; turn++) {
+    for (uint32_t turn = 0; FEWEST || turn < TRIES; turn++) {
         uint64_t head = atomic_load(&queue->words[0]);
         if (head == CLOSED) {
             answer = REFUSED;
@@ -71,7 +71,7 @@ __attribute__((noinline)) static enum answer queue_try(struct queue *queue, uint
         if (atomic_compare_exchange_strong(&queue->words[0], &head, (uint64_t)number + 1)) {
             return QUEUED;
         }
-        if (!KERNEL || queue->is_patient) {
+        if (!FEWEST || queue->is_patient) {
             spin(spins);
             spins = spins < MOST_SPINS ? 2 * spins : MOST_SPINS;
         }
@@ -111,7 +111,7 @@ __attribute__((noinline)) static uint64_t execute(struct queue *queue, uint64_t 
         }
         queue->waiting--;
         atomic_fetch_and(item_of(queue, number), 0);
-        if (!KERNEL) {
+        if (!FEWEST) {
             atomic_fetch_add(&queue->words[1 + 2 * (size_t)queue->numbers], 1);
         }
         queue->ended++;

@@ -105,11 +105,11 @@ def peers_of_rust(folder):
     return os.path.join(room, 'target', 'release', 'peers')
 
 
-def rows(program, scheme, kernel, rust):
+def rows(program, scheme, fewest, rust):
     """The rows of the first table: a name, and the command without its numbers."""
     yield 'this queue, with patience', [program]
     yield 'this queue, without', [program, 'eager']
-    for name, peer in (('the same words in C', scheme), ("the kernel's steps in C", kernel)):
+    for name, peer in (('the same words in C', scheme), ('the fewest steps, in C', fewest)):
         yield f'{name}, with patience', [peer, 'patient']
         yield f'{name}, without', [peer, 'eager']
     yield '`Worker::serve`', [program, 'serve']
@@ -179,7 +179,7 @@ def main():
     count = int(sys.argv[3]) if len(sys.argv) > 3 else 500000
     before = sys.argv[4:]
     with folder_and_load() as folder:
-        peers = compiled(folder, 'scheme'), compiled(folder, 'scheme', '-DKERNEL=1'), peers_of_rust(folder)
+        peers = compiled(folder, 'scheme'), compiled(folder, 'scheme', '-DFEWEST=1'), peers_of_rust(folder)
         table = [(name, before + words) for name, words in rows(program, *peers)]
         lone_table = [(name, before + words) for name, words in lone_rows(program, compiled(folder, 'lone'))]
         show_items(table, measured(rounds, table, CELLS, lambda cell: (*cell, count), items))
