@@ -11,6 +11,7 @@ import fcntl
 import os
 import re
 import shutil
+import signal
 import subprocess
 import sys
 import tempfile
@@ -25,6 +26,8 @@ PARTS = ("src", "specs", "proofs")
 PROCESSORS = len(os.sched_getaffinity(0))
 # room for one check
 MEMORY_OF_A_CRATE = 3 << 30
+# the provers at work
+RUNNING = set()
 BEFORE = """Proves wqrun and what it stands on, {count} crates, side by side on {processors} processors, and builds it.
 From nothing that took 16 minutes by the clock on four processors, 48 minutes of them, where it was measured; a busy or
 slow machine takes up to three times as long, and where nothing has changed it takes some seconds. All that is said goes
@@ -93,12 +96,23 @@ def prove(named, crate, is_first):
     words = ["run" if crate == PROGRAM else "lib", "--jobs", str(min(crates_at_once(), 4) if is_first else 1)]
     words = ["nice", "-n", "0" if is_first else "10", "rt", *words, *["--", "--version"] * (crate == PROGRAM)]
     began = time.monotonic()
+    pipes = {"stdout": subprocess.PIPE, "stderr": subprocess.PIPE, "text": True, "errors": "replace"}
     try:
-        ran = subprocess.run(words, cwd=tree / "crates" / crate, capture_output=True, text=True, errors="replace")
+        with subprocess.Popen(words, cwd=tree / "crates" / crate, **pipes) as ran:
+            RUNNING.add(ran)
+            said, faults = ran.communicate()
+            RUNNING.discard(ran)
     finally:
         move_out(crate, tree, TOP)
         shutil.rmtree(tree)
-    return ran.returncode == 0, f"== {crate}, {time.monotonic() - began:.0f} seconds\n{ran.stdout}{ran.stderr}"
+    return ran.returncode == 0, f"== {crate}, {time.monotonic() - began:.0f} seconds\n{said}{faults}"
+
+
+def stop(number, _frame):
+    """Ends the provers with the script: what they keep stays, and a later run goes on from it."""
+    for it in list(RUNNING):
+        it.terminate()
+    os._exit(128 + number)
 
 
 def prove_all(named, crates, log):
@@ -132,6 +146,11 @@ def lone_run():
 
 
 def main():
+    if len(sys.argv) > 1:
+        sys.exit(__doc__)
+    if not shutil.which("rt"):
+        sys.exit('build.py: there is no rt on the PATH. It comes with Rattle\'s toolchain: README.md, "Run it"')
+    signal.signal(signal.SIGTERM, stop)
     _lock = lone_run()
     named = named_crates()
     crates = with_below(named, PROGRAM)
