@@ -94,7 +94,7 @@ FILE is a path as it is written: '-' is a file of that name. For a pipe name /de
 
 Exit status:
   0  the result was written, or help or the version was asked for; of a recording: it is legal
-  1  the text was refused, the file could not be read, or the output could not be written
+  1  the text was refused, the file could not be read, the words are not UTF-8, or the output could not be written
   2  the command line was refused
   3  memory, or a thread, could not be had
   4  the recording is not legal, or --drained was given and something is left";
