@@ -136,7 +136,22 @@ static void names(void) {
     CHECK(!strcmp(wq_code_name(WQ_SEAT_BUSY), "SEAT_BUSY") && !strcmp(wq_code_name(WQ_NO_THREAD), "NO_THREAD"));
 }
 
+/* A seat of each kind writes nothing behind as many bytes as the library says that a seat takes. */
+static void within_its_room(void) {
+    static unsigned char rooms[2][2 * WQ_SEAT_BYTES] __attribute__((aligned(128)));
+    size_t size = wq_c_seat_size();
+    memset(rooms, 0xa5, sizeof rooms);
+    wq_c_init(rooms[0]);
+    wq_c_init(rooms[1]);
+    CHECK((uint32_t)wq_c_build(rooms[0], 4, 1, 1) == WQ_OK && (uint32_t)wq_c_hand_out(rooms[0], rooms[1]) == WQ_OK);
+    CHECK(wq_is_queued((uint32_t)wq_c_queue(rooms[1], 2, 1)) && (uint32_t)wq_c_close(rooms[0]) == WQ_OK);
+    CHECK((uint32_t)wq_c_begin(rooms[0]) == WQ_OK && (uint32_t)wq_c_end(rooms[0]) == WQ_OK);
+    for (size_t at = size; at < sizeof rooms[0]; at++) CHECK(rooms[0][at] == 0xa5 && rooms[1][at] == 0xa5);
+    CHECK((uint32_t)wq_c_release(rooms[0]) == WQ_OK && (uint32_t)wq_c_release(rooms[1]) == WQ_OK);
+}
+
 int main(void) {
+    within_its_room();
     before_a_queue();
     handing_out();
     sending();
