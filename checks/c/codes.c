@@ -7,7 +7,7 @@ static wq_seat owner, one, two;
 
 static void before_a_queue(void) {
     uint32_t n = 77;
-    CHECK(wq_c_seat_size() <= WQ_SEAT_BYTES);
+    CHECK(wq_c_seat_size() <= WQ_SEAT_BYTES && wq_c_seat_align() >= sizeof(void *)); /* a seat has addresses in it */
 #ifdef WQ_UNCHECKED
     CHECK(sizeof(wq_seat) == 256);
 #else
