@@ -174,14 +174,9 @@ impl<K: Station> Runner<K> {
         self.execute(queue, gate)
     }
 
-    /// Goes on with what is owed and with what waits, until nothing is left to do, but by no more executions than the limit. The
-    /// gate is called with the queue's number before and after each execution of an item; an execution that is owed, and gone on
-    /// with in a later call, has its first call of the gate in the earlier one.
-    ///
-    /// True where nothing is left to do: the last step was a rest that won, or the queue has run to its end, and no execution is
-    /// owed. False where something is left: after just as many executions as the limit a number waits that was taken, or an
-    /// execution is owed.
-    pub fn work<G: Gate>(&mut self, queue: u32, limit: u32, gate: &G) -> bool
+    // The loop of `work`, of which the same is said. It is a function of its own so that `work` has each of its clauses from this
+    // call alone, and wants no proof beside it.
+    fn work_on<G: Gate>(&mut self, queue: u32, limit: u32, gate: &G) -> bool
         ensures works { WorksOn K.may K.gives limit result (K.state self.old) (K.state self.new) }
         ensures deals { Along K.deals self.old self.new }
     {
@@ -199,6 +194,20 @@ impl<K: Station> Runner<K> {
             Some(_) => false,
             None => true,
         }
+    }
+
+    /// Goes on with what is owed and with what waits, until nothing is left to do, but by no more executions than the limit. The
+    /// gate is called with the queue's number before and after each execution of an item; an execution that is owed, and gone on
+    /// with in a later call, has its first call of the gate in the earlier one.
+    ///
+    /// True where nothing is left to do: the last step was a rest that won, or the queue has run to its end, and no execution is
+    /// owed. False where something is left: after just as many executions as the limit a number waits that was taken, or an
+    /// execution is owed.
+    pub fn work<G: Gate>(&mut self, queue: u32, limit: u32, gate: &G) -> bool
+        ensures works { WorksOn K.may K.gives limit result (K.state self.old) (K.state self.new) }
+        ensures deals { Along K.deals self.old self.new }
+    {
+        self.work_on(queue, limit, gate)
     }
 
     // Closes the queue where it is not closed.

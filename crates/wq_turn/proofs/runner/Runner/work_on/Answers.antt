@@ -3,7 +3,7 @@ use Rattle.wq_worker.specs.Rows.{here}
 use Rattle.wq_worker.proofs.Rows.{along_on}
 use Rattle.wq_turn.proofs.Settled.{works_owed, works_done, works_due}
 use Rattle.wq_turn.proofs.Steps.{steps_on}
-use Rattle.wq_turn.proofs.runner.Runner.work.Goals as goal
+use Rattle.wq_turn.proofs.runner.Runner.work_on.Goals as goal
 
 pub loop-ended-init : goal.loop-ended-init
 loop-ended-init g c = (still (g.K.Station.state c.args.self.now), λ some. absurd (omega (arith, some)), λ none. refl, here c.args.self.now)

@@ -1,6 +1,6 @@
 use Rattle.wq_turn.proofs.Common.{◌≡◌, ◌<◌, IsRunning, StepRow}
 use Rattle.wq_worker.specs.Rows.{Along}
-use Rattle.wq_turn.proofs.runner.Runner.work.Given as goal
+use Rattle.wq_turn.proofs.runner.Runner.work_on.Given as goal
 
 abbrev pub invariant-loop-ended : goal.invariant-loop-ended
 invariant-loop-ended g l =
