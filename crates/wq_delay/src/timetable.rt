@@ -252,6 +252,14 @@ fn sort_behind(row: &mut Vec<DueItem>, late: usize)
     row[late..].sort_unstable();
 }
 
+// Sorts what is due into the order in which it goes out.
+fn sort(due: &mut Vec<DueItem>)
+    ensures moved { IsPermutation due.old.items due.new.items }
+    ensures sorted { AreSorted due.new.items }
+{
+    due.sort_unstable();
+}
+
 // Looks at the slots of the ticks after `tick` up to `now` in turn, or at each slot once where there are more ticks than slots.
 // How many slots it looked at, at each of them at least at its earliest tick.
 fn look_on(
@@ -464,7 +472,7 @@ impl Timetable {
             self.tick,
             now,
         )?;
-        due.sort_unstable();
+        sort(&mut due);
         items_of(alloc, &due)
     }
 }

@@ -27,12 +27,12 @@ find_on-requires-clause-earliest c =
 pub returns : goal.returns
 returns c =
     let places : List (Option Place) = c.self.inside.places.items in let now = c.args.now in
-    let found : List DueItem = c.find_on.new.found.items in let sorted : List DueItem = c.sort_unstable.new.self.items in
+    let found : List DueItem = c.find_on.new.found.items in let sorted : List DueItem = c.sort.new.due.items in
     let due : AreDue places now (map entry_of found) =
     subst (λ (z : List (Option Place)). AreDue z now (map entry_of found)) c.deref-3.ensures.value c.in_ok-find_on.ensures in
-    let moves = c.sort_unstable.ensures.permutation in
+    let moves = c.sort.ensures.moved in
     let whole : map entry_of sorted ≡ due_part now (entries_of places) =
-    sorted_is_due places now sorted c.self.invariant.0.apart (on_table_permuted places found sorted moves due.on) c.sort_unstable.ensures.sorted
+    sorted_is_due places now sorted c.self.invariant.0.apart (on_table_permuted places found sorted moves due.on) c.sort.ensures.sorted
     (λ k. sym (same_on_table k found sorted moves) ∙ due.which k) in
     let e : map (λ (x : DueItem). x.item) c.deref-5.result.now ≡ items (due_part now c.args.self.now.entries) =
     ap (map (λ (x : DueItem). x.item)) c.deref-5.ensures.value ∙ (items_of_rows sorted ∙ (ap items whole
