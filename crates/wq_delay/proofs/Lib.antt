@@ -23,3 +23,4 @@ pub mod Sound
 pub mod OnTable
 pub mod Going
 pub mod Advancing
+pub mod Accepted

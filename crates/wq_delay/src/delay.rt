@@ -317,6 +317,8 @@ impl Delay {
     /// Gives back all that is on the table, and leaves the sender.
     pub fn dissolve(self) -> Sender
         ensures given { GivesAllBack self result }
+        ensures unqueued { accepted (own result.number result.seen) ≡ accepted (own self.sender.number self.sender.seen) }
+        ensures same { IsSame self.sender result }
         ensures free { (k : ℕ) → ¬ Holds result.seen result.number k }
     {
         let Delay {

@@ -1,5 +1,6 @@
 use Rattle.wq_delay.proofs.Common.{ℕ, sym, ◌∙◌, subst, arith, without_off, Known, DelayState, GivesAllBack}
 use Rattle.wq_delay.proofs.Going.{Given, given_none, given_more, given_same, given_all, taken_held, on_less, off_more, all_off}
+use Rattle.wq_delay.proofs.Accepted.{given_still}
 use Rattle.wq_delay.proofs.delay.Delay.dissolve.Goals.{then-take, else-take}
 use Rattle.wq_delay.proofs.delay.Delay.dissolve.Goals as goal
 
@@ -40,6 +41,9 @@ returns-clause-given c =
     subst (λ (z : DelayState). GivesAllBack z l.sender) c.self.view_is
     (given_all l.table.size i.sender l.sender i.table.entries l.table.entries i.table.tick i.next i.looked l.invariant.0
     (all_off l.table.entries c.size-item-end.result l.item l.invariant.1 c.loop-item-test.false l.invariant.2))
+
+pub returns-clause-unqueued : goal.returns-clause-unqueued
+returns-clause-unqueued c = given_still c.args.self c.loop-item.sender (returns-clause-given c)
 
 pub returns-clause-free : goal.returns-clause-free
 returns-clause-free c k holds =
