@@ -161,6 +161,7 @@ impl Delay {
     pub fn cancel(&mut self, item: u32) -> bool
         requires { item < self.old.sender.layout.items }
         ensures answer { Cancels item result self.old self.new }
+        ensures unqueued { accepted (own self.new.sender.number self.new.sender.seen) ≡ accepted (own self.old.sender.number self.old.sender.seen) }
         ensures same { IsSame self.old.sender self.new.sender }
         ensures looked { self.new.looked ≡ self.old.looked }
         ensures was { result ≡ on_table item self.old.table.entries }
