@@ -186,6 +186,14 @@ impl Delay {
         ensures answer { Modifies item delay tries result self.old self.new }
         ensures contended { result ≡ modified.Contended → on_table item self.old.table.entries ≡ false
             → IsContended self.old.sender.number item tries self.new.sender.seen }
+        ensures accepted { result ≡ modified.WasIdle → delay ≡ 0
+            → accepted (own self.old.sender.number self.new.sender.seen) ≡ accepted (own self.old.sender.number self.old.sender.seen) ++ item ∷ [] }
+        ensures posted { result ≡ modified.Moved → delay ≡ 0
+            → accepted (own self.old.sender.number self.new.sender.seen) ≡ accepted (own self.old.sender.number self.old.sender.seen) ++ item ∷ [] }
+        ensures unqueued { result ≢ modified.WasIdle → result ≢ modified.Moved
+            → accepted (own self.new.sender.number self.new.sender.seen) ≡ accepted (own self.old.sender.number self.old.sender.seen) }
+        ensures delayed { 0 < delay
+            → accepted (own self.new.sender.number self.new.sender.seen) ≡ accepted (own self.old.sender.number self.old.sender.seen) }
         ensures same { IsSame self.old.sender self.new.sender }
         ensures far { (result ≡ modified.TooFar) ↔ IsTrue (is_too_far delay self.old.table) }
         ensures memory { result ≢ modified.Memory }

@@ -1,6 +1,8 @@
 use Rattle.wq_delay.proofs.Common.{◌+◌, refl, sym, ap, ◌∙◌, on_table, without, DelayState}
 use Rattle.wq_delay.proofs.Sound.{fit_at, sound_moves}
 use Rattle.wq_delay.proofs.OnTable.{placed_on, placed_others, without_others, posts_others}
+use Rattle.wq_delay.proofs.Accepted.{armed_still, armed_late, posted_more, posted_still}
+use Rattle.wq_words.specs.Armed.{modified_of}
 use Rattle.wq_delay.proofs.delay.Delay.modify.Goals as goal
 
 pub invariant_of-self : goal.invariant_of-self
@@ -24,3 +26,22 @@ returns-clause-other_items c = let i = c.self.inside in let k = c.args.item in
 pub returns-then-delay-eq0-clause-other_items : goal.returns-then-delay-eq0-clause-other_items
 returns-then-delay-eq0-clause-other_items c =
     λ j apart. posts_others j c.args.item c.args.tries c.post_item.result c.args.self.now c.post_item.new.self c.post_item.ensures.posts apart
+
+pub returns-then-delay-eq0-clause-posted : goal.returns-then-delay-eq0-clause-posted
+returns-then-delay-eq0-clause-posted c =
+    λ is none. posted_more c.args.item c.args.tries c.post_item.result c.args.self.now c.post_item.new.self c.post_item.ensures.posts
+    (sym c.modified_of_posted.ensures ∙ is)
+
+pub returns-then-delay-eq0-clause-unqueued : goal.returns-then-delay-eq0-clause-unqueued
+returns-then-delay-eq0-clause-unqueued c =
+    λ idle other. posted_still c.args.item c.args.tries c.post_item.result c.args.self.now c.post_item.new.self c.post_item.ensures.posts
+    (λ is. other (c.modified_of_posted.ensures ∙ is))
+
+pub returns-then-not-has-clause-unqueued : goal.returns-then-not-has-clause-unqueued
+returns-then-not-has-clause-unqueued c =
+    λ other moved. armed_still c.args.item c.args.delay c.args.tries c.arm.result c.args.self.now c.arm.new.self c.arm.ensures.answer
+    (λ is_first wakes is. other (c.modified_of.ensures ∙ ap modified_of is))
+
+pub returns-then-not-has-clause-delayed : goal.returns-then-not-has-clause-delayed
+returns-then-not-has-clause-delayed c =
+    armed_late c.args.item c.args.delay c.args.tries c.arm.result c.args.self.now c.arm.new.self c.arm.ensures.answer
