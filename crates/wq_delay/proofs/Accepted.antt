@@ -24,7 +24,7 @@ IsStill old new = accepted (own new.number new.seen) ≡ accepted (own old.numbe
 abbrev pub GrowsBy : List ℕ → Known → Known → Type 0
 GrowsBy ks old new = accepted (own old.number new.seen) ≡ accepted (own old.number old.seen) ++ ks
 
-grows_by : (xs : List Event) (n : ℕ) (old new : Known) → Sees xs n old new → GrowsBy (accepted xs) old new
+pub grows_by : (xs : List Event) (n : ℕ) (old new : Known) → Sees xs n old new → GrowsBy (accepted xs) old new
 grows_by xs n old new sees =
     ap accepted (grows_own old.number xs n old.seen new.seen sees.grows) ∙ accepted-append (own old.number old.seen) xs
 

@@ -24,3 +24,4 @@ pub mod OnTable
 pub mod Going
 pub mod Advancing
 pub mod Accepted
+pub mod Pushed

@@ -1,5 +1,5 @@
 //! The delay table of a queue.
-ghost use Rattle.std.specs.Prelude.{◌≡◌, ◌≢◌, ℕ, ◌+◌, ◌^◌, ◌<◌, ◌↔◌, IfOk, IfErr, IfSome, Bool, IsTrue, [], ◌∷◌, ◌++◌, length, true, false, MatchOption};
+ghost use Rattle.std.specs.Prelude.{◌≡◌, ◌≢◌, ℕ, ◌+◌, ◌^◌, ◌<◌, ◌↔◌, IfOk, IfErr, IfSome, Bool, IsTrue, [], ◌∷◌, ◌++◌, length, take, true, false, MatchOption};
 ghost use Rattle.wq_words.specs.declared.answer.Armed.TheVariants as armed;
 ghost use Rattle.wq_words.specs.declared.answer.Modified.TheVariants as modified;
 ghost use Rattle.wq_words.specs.History.{Holds, accepted};
@@ -307,6 +307,10 @@ impl Delay {
     pub fn advance(&mut self, now: u64, tries: u32) -> Result<Advance, Backwards>
         requires { 0 < tries }
         ensures answer { Advances now tries result self.old self.new }
+        ensures accepted { IfOk result (λ a. accepted (own self.old.sender.number self.new.sender.seen)
+            ≡ accepted (own self.old.sender.number self.old.sender.seen) ++ items (take a.pushed (due_part now self.old.table.entries))) }
+        ensures unqueued { IfErr result (λ e. accepted (own self.new.sender.number self.new.sender.seen)
+            ≡ accepted (own self.old.sender.number self.old.sender.seen)) }
         ensures same { IsSame self.old.sender self.new.sender }
         ensures looked { Looks result now self.old self.new }
     {

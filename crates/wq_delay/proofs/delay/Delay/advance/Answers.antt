@@ -1,5 +1,6 @@
 use Rattle.wq_delay.proofs.Common.{ap, ◌∙◌, arith, length, DelayState, Entry}
 use Rattle.wq_delay.proofs.Advancing.{posts_before}
+use Rattle.wq_delay.proofs.Pushed.{pushed_due}
 use Rattle.wq_delay.proofs.delay.Delay.advance.Goals as goal
 
 pub returns-clause-answer : goal.returns-clause-answer
@@ -11,3 +12,6 @@ returns-clause-answer c =
           (l.entries ∙ ap (λ (z : DelayState). z.table.entries) is) (ap (λ (z : DelayState). z.table.next) is),
       omega (arith, c.len-armed.ensures.count, p.ensures.sum, many),
     )
+
+pub returns-clause-accepted : goal.returns-clause-accepted
+returns-clause-accepted c = pushed_due c.args.now c.args.tries _ _ c.args.self.now _ (returns-clause-answer c).1
