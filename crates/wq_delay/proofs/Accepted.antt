@@ -1,26 +1,29 @@
 -- What the calls of a delay table make of what was accepted of its sender.
-use Rattle.wq_words.specs.Armed.{modified_of_posted}
+use Rattle.wq_words.specs.Armed.{armed_of, modified_of_posted}
 use Rattle.wq_words.specs.History.{accepted}
 use Rattle.wq_words.specs.Seen.{own}
 use Rattle.wq_words.proofs.Appended.{accepted-append}
 use Rattle.wq_live.proofs.Growing.{grows_own}
 use Rattle.wq_live.proofs.Resting.{accepted_still}
-use Rattle.wq_delay.proofs.Common.{◌≡◌, ◌≢◌, ℕ, ◌<◌, Bool, List, [], ◌∷◌, ◌++◌, refl, ap, ◌∙◌, arith, Event, Hold, Busy, Push, Back, Entry, Known, Sees}
+use Rattle.wq_live.specs.Answers.{Answers}
+use Rattle.wq_delay.proofs.Common.{◌≡◌, ◌≢◌, ℕ, ◌<◌, Bool, List, [], ◌∷◌, ◌++◌, refl, ap, ◌∙◌, subst, arith, Event, Hold, Busy, Push, Back, Entry, Known, Sees}
 use Rattle.wq_delay.proofs.Common.{DelayState, GivesAllBack}
 use Rattle.wq_delay.proofs.Going.{backs}
 use Rattle.wq_delay.specs.Delay.{Arms, PostsOne}
+use Rattle.wq_words.specs.declared.answer.Answer.{Answer}
 use Rattle.wq_words.specs.declared.answer.Armed.{Armed}
 use Rattle.wq_words.specs.declared.answer.Posted.{Posted}
 use Rattle.wq_words.specs.declared.event.Why.TheVariants as why
+use Rattle.wq_words.specs.declared.answer.Answer.TheVariants as answer
 use Rattle.wq_words.specs.declared.answer.Armed.TheVariants as armed
 use Rattle.wq_words.specs.declared.answer.Modified.TheVariants as modified
 use Rattle.wq_words.specs.declared.answer.Posted.TheVariants as posted
 
--- it is as it was
+-- what was accepted of a seat is as it was
 abbrev pub IsStill : Known → Known → Type 0
 IsStill old new = accepted (own new.number new.seen) ≡ accepted (own old.number old.seen)
 
--- it has grown by these
+-- what was accepted of a seat has grown by these
 abbrev pub GrowsBy : List ℕ → Known → Known → Type 0
 GrowsBy ks old new = accepted (own old.number new.seen) ≡ accepted (own old.number old.seen) ++ ks
 
@@ -36,25 +39,22 @@ none_back s (e ∷ es) = none_back s es
 pub given_still : (d : DelayState) (q : Known) → GivesAllBack d q → IsStill d.sender q
 given_still d q told = let s = d.sender.number in accepted_still 0 (backs s told.order) d.sender q told.seen (none_back s told.order)
 
--- only an arming that is answered Queued queues its item, and none with a delay above 0 is
-pub armed_still : (k delay tries : ℕ) (a : Armed) (old new : DelayState) → Arms k delay tries a old new
-    → ((is_first wakes : Bool) → a ≢ armed.Queued is_first wakes) → IsStill old.sender new.sender
-armed_still k delay tries (armed.Queued is_first wakes) old new told other = absurd (other is_first wakes refl)
-armed_still k delay tries armed.OnTable old new told other = accepted_still 0 (Hold old.sender.number k ∷ []) old.sender new.sender told.1.seen refl
-armed_still k delay tries armed.Pending old new told other = accepted_still 0 (Busy old.sender.number k ∷ []) old.sender new.sender told.seen refl
-armed_still k delay tries armed.Closed old new told other =
-    accepted_still 0 (Hold old.sender.number k ∷ Back old.sender.number k why.Closed ∷ []) old.sender new.sender told.1.seen refl
-armed_still k delay tries armed.Contended old new told other =
-    accepted_still tries (Hold old.sender.number k ∷ Back old.sender.number k why.Contended ∷ []) old.sender new.sender told.1.seen refl
-armed_still k delay tries armed.Draining old new told other =
-    accepted_still 0 (Hold old.sender.number k ∷ Back old.sender.number k why.Draining ∷ []) old.sender new.sender told.1.seen refl
-armed_still k delay tries armed.TooFar old new told other = ap (λ (d : DelayState). accepted (own d.sender.number d.sender.seen)) told
-armed_still k delay tries armed.Memory old new told other =
-    accepted_still 0 (Hold old.sender.number k ∷ Back old.sender.number k why.Cancelled ∷ []) old.sender new.sender told.1.seen refl
+-- a queueing adds nothing unless the arming is answered Queued
+pub queued_still : (k tries : ℕ) (a : Answer) (old new : Known) → Answers k tries a old new
+    → ((is_first wakes : Bool) → armed_of a ≢ armed.Queued is_first wakes) → IsStill old new
+queued_still k tries (answer.Queued is_first wakes) old new told other = absurd (other is_first wakes refl)
+queued_still k tries answer.Pending old new told other = accepted_still 0 (Busy old.number k ∷ []) old new told refl
+queued_still k tries answer.Closed old new told other = accepted_still 0 (Hold old.number k ∷ Back old.number k why.Closed ∷ []) old new told refl
+queued_still k tries answer.Contended old new told other =
+    accepted_still tries (Hold old.number k ∷ Back old.number k why.Contended ∷ []) old new told refl
+queued_still k tries answer.Draining old new told other =
+    accepted_still 0 (Hold old.number k ∷ Back old.number k why.Draining ∷ []) old new told.0 refl
 
-pub armed_late : (k delay tries : ℕ) (a : Armed) (old new : DelayState) → Arms k delay tries a old new → 0 < delay → IsStill old.sender new.sender
-armed_late k delay tries (armed.Queued is_first wakes) old new told late = absurd (omega (arith, told.0, late))
-armed_late k delay tries a old new told late = armed_still k delay tries a old new told (λ is_first wakes is. absurd (cc))
+-- an arming with a delay above 0 is not answered Queued
+pub late_unqueued : (k delay tries : ℕ) (a : Armed) (old new : DelayState) → Arms k delay tries a old new → 0 < delay → (is_first wakes : Bool)
+    → a ≢ armed.Queued is_first wakes
+late_unqueued k delay tries a old new told late is_first wakes is =
+    let queued = subst (λ (z : Armed). Arms k delay tries z old new) is told in absurd (omega (arith, queued.0, late))
 
 -- what is answered of a post of an item on the table says whether it queued the item
 pub posted_more : (k tries : ℕ) (r : Posted) (old new : DelayState) → PostsOne k tries r old new → modified_of_posted r ≡ modified.Moved

@@ -140,6 +140,8 @@ impl Delay {
         ensures looked { self.new.looked ≡ self.old.looked }
         ensures accepted { (first wakes : Bool) → result ≡ armed.Queued first wakes
             → accepted (own self.old.sender.number self.new.sender.seen) ≡ accepted (own self.old.sender.number self.old.sender.seen) ++ item ∷ [] }
+        ensures unqueued { ((first wakes : Bool) → result ≢ armed.Queued first wakes)
+            → accepted (own self.new.sender.number self.new.sender.seen) ≡ accepted (own self.old.sender.number self.old.sender.seen) }
         ensures on { result ≡ armed.OnTable → on_table item self.new.table.entries ≡ true }
         ensures other_items { (k : ℕ) → k ≢ item → on_table k self.new.table.entries ≡ on_table k self.old.table.entries }
     {

@@ -4,6 +4,7 @@ use Rattle.wq_live.proofs.Resting.{queued_accepted}
 use Rattle.wq_delay.proofs.Common.{◌≡◌, ℕ, ◌+◌, List, [], ◌∷◌, ◌++◌, refl, sym, ap, subst, ◌∙◌, Busy, on_table, DelayState}
 use Rattle.wq_delay.proofs.Sound.{fit_at, sound_queued, sound_keeps, sound_puts, off_before}
 use Rattle.wq_delay.proofs.OnTable.{placed_on, placed_others, queued_armed}
+use Rattle.wq_delay.proofs.Accepted.{queued_still}
 use Rattle.wq_delay.proofs.delay.Delay.arm.Goals as goal
 
 pub invariant_of-self : goal.invariant_of-self
@@ -48,3 +49,9 @@ returns-then-delay-eq0-clause-accepted c = let a = c.self.inside.sender in let b
     (queued_accepted k c.args.tries c.queue_tries.result a b c.queue_tries.ensures.answer
     ∙ ap (λ (ks : List ℕ). accepted (own a.number a.seen) ++ ks)
     (queued_armed k c.queue_tries.result is_first wakes (sym c.armed_of.ensures ∙ is)))
+
+pub returns-then-delay-eq0-clause-unqueued : goal.returns-then-delay-eq0-clause-unqueued
+returns-then-delay-eq0-clause-unqueued c = let a = c.self.inside.sender in let b = c.queue_tries.new.self in
+    λ other. subst (λ (z : DelayState). accepted (own b.number b.seen) ≡ accepted (own z.sender.number z.sender.seen)) c.self.view_is
+    (queued_still c.args.item c.args.tries c.queue_tries.result a b c.queue_tries.ensures.answer
+    (λ is_first wakes is. other is_first wakes (c.armed_of.ensures ∙ is)))

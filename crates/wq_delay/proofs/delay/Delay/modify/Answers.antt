@@ -1,7 +1,7 @@
 use Rattle.wq_delay.proofs.Common.{◌+◌, refl, sym, ap, ◌∙◌, on_table, without, DelayState}
 use Rattle.wq_delay.proofs.Sound.{fit_at, sound_moves}
 use Rattle.wq_delay.proofs.OnTable.{placed_on, placed_others, without_others, posts_others}
-use Rattle.wq_delay.proofs.Accepted.{armed_still, armed_late, posted_more, posted_still}
+use Rattle.wq_delay.proofs.Accepted.{late_unqueued, posted_more, posted_still}
 use Rattle.wq_words.specs.Armed.{modified_of}
 use Rattle.wq_delay.proofs.delay.Delay.modify.Goals as goal
 
@@ -39,9 +39,9 @@ returns-then-delay-eq0-clause-unqueued c =
 
 pub returns-then-not-has-clause-unqueued : goal.returns-then-not-has-clause-unqueued
 returns-then-not-has-clause-unqueued c =
-    λ other moved. armed_still c.args.item c.args.delay c.args.tries c.arm.result c.args.self.now c.arm.new.self c.arm.ensures.answer
-    (λ is_first wakes is. other (c.modified_of.ensures ∙ ap modified_of is))
+    λ other moved. c.arm.ensures.unqueued (λ is_first wakes is. other (c.modified_of.ensures ∙ ap modified_of is))
 
 pub returns-then-not-has-clause-delayed : goal.returns-then-not-has-clause-delayed
 returns-then-not-has-clause-delayed c =
-    armed_late c.args.item c.args.delay c.args.tries c.arm.result c.args.self.now c.arm.new.self c.arm.ensures.answer
+    λ late. c.arm.ensures.unqueued
+    (late_unqueued c.args.item c.args.delay c.args.tries c.arm.result c.args.self.now c.arm.new.self c.arm.ensures.answer late)
