@@ -1,12 +1,12 @@
 -- A worker after steps in a row is the same worker, what it has seen is legal, and its queue is open where it was.
 use Rattle.wq_worker.proofs.Common.{◌≡◌, ℕ, List, [], ◌∷◌, ◌++◌, sym, refl, ◌∙◌, ap, subst, arith, count_by, Event, End, Drain, Resume, IsClosed}
-use Rattle.wq_worker.proofs.Common.{IsShut, IsRunning, IsLegal, IsComplete, HasRunOut, count_by-append, Ran, Item, Barrier, Stop, Nothing, Owing, taking}
+use Rattle.wq_worker.proofs.Common.{Some, running, IsShut, IsRunning, IsLegal, IsComplete, HasRunOut, count_by-append, Ran, Item, Barrier, Stop, Nothing, Owing, taking}
 use Rattle.wq_worker.proofs.Common.{contended_of, WorkerState, Moves, stays, EndsBy, OwesBy, owes, RunsBy, RowBy, none, more, IsExecution, Shuts}
 use Rattle.wq_worker.proofs.Common.{drains, Resumes, stays_closed, reopens, is_turn}
 use Rattle.wq_worker.specs.State.{IsSameWorker}
-use Rattle.wq_worker.specs.Step.{StartsBy, item, other, owed, ends, Runs}
+use Rattle.wq_worker.specs.Step.{LeavesRunning, StartsBy, item, other, owed, ends, Runs}
 use Rattle.wq_worker.specs.Rows.{Along, here, onward, GoesOn, RunsSomeBy, full, broken, RunsOutBy, Closes, was_closed, closes, was_shut}
-use Rattle.wq_worker.proofs.Owned.{owner_grown, owner_of_both}
+use Rattle.wq_worker.proofs.Owned.{owner_grown, owner_of_both, quiet_stays}
 use Rattle.wq_worker.proofs.Follow.{quiet_follows, quiet_contended}
 use Rattle.wq_live.proofs.Phases.{open_then}
 use Rattle.wq_worker.proofs.Phase.{SamePhase, phase_still, phase_on, open_still, unclosed_still, closed_still, shut_still}
@@ -96,6 +96,18 @@ module _ {W : Type 0} (may : W → ℕ → List ℕ → W → Type 0) (gives : W
   runs_by_same Stop a b t = ends_same t.0 a b t.2
   runs_by_same Nothing a b t = moves_same _ 0 a b t.3
   runs_by_same (Owing k) a b t = owes_same k a b t
+
+  owes_running : (k : ℕ) (a b : WorkerState W) → OwesBy may gives a k b → running b.seen ≡ Some k
+  owes_running k a b (owes f qs j rest es fs st split left opens told moved runs) = runs
+
+  pub runs_by_running : (r : Ran) (a b : WorkerState W) → RunsBy may gives r a b → LeavesRunning r b.seen
+  runs_by_running (Item k) a b t = ends_idle t.0 a b t.2
+  runs_by_running (Barrier k) a b t = ends_idle t.0 a b t.2
+  runs_by_running Stop a b t = ends_idle t.0 a b t.2
+  runs_by_running Nothing a b t =
+      let xs = taking a.seen in
+      let s = quiet_stays xs a.seen b.seen (quiet_taking a.seen) (owner_of_both a.number xs 0 a.seen b.seen t.3.adds) in rw (s.begun_same, s.ended_same) t.0
+  runs_by_running (Owing k) a b t = owes_running k a b t
 
   pub row_same : (P : Ran → Type 0) (n : ℕ) (a b : WorkerState W) → RowBy may gives P n a b → IsSameWorker a b
   row_same P n a b (none c) = worker_still c

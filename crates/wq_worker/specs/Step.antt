@@ -24,6 +24,11 @@ IsKind layout k (Owing j) = ⊥
 abbrev pub FindsNothing : {W : Type 0} → WorkerState W → WorkerState W → Type 0
 FindsNothing a b = NothingWaits b.seen × (b.work ≡ a.work) × Moves (taking a.seen) 0 a b × HasNoneLeft b.seen
 
+-- what runs after a step with this answer: the number that is owed, and else nothing
+abbrev pub LeavesRunning : Ran → List Event → Type 0
+LeavesRunning (Owing k) h = running h ≡ Some k
+LeavesRunning _ h = ¬ IsRunning h
+
 -- a work is as it was
 abbrev pub stays : {W : Type 0} → W → W → Type 0
 stays a b = b ≡ a

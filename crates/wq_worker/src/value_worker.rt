@@ -1,5 +1,5 @@
 //! A worker whose items bring values.
-ghost use Rattle.std.specs.Prelude.{◌≡◌, ◌↔◌, ℕ, ◌+◌, ◌<◌, false, Some, [], ◌∷◌, All, map, length, IfOk, IfErr, IfNone, IsOk, IsTrue, MatchOption, MatchResult};
+ghost use Rattle.std.specs.Prelude.{◌≡◌, ◌↔◌, ℕ, ◌+◌, ◌<◌, false, Some, None, [], ◌∷◌, All, map, length, IfOk, IfErr, IfNone, IsOk, IsTrue, MatchOption, MatchResult};
 ghost use Rattle.std.specs.Fn.{FnOnceTakesAtMut, FnOnceReturnsAtMut};
 ghost use mathlib.Core.List.{IsPrefix};
 ghost use Rattle.wq_words.specs.declared.event.Event.TheVariants.{Close};
@@ -20,7 +20,7 @@ ghost use Rattle.wq_worker.specs.declared.drained.Drained.TheVariants.{Empty, To
 ghost use Rattle.wq_worker.specs.Returned.{GivesBack, MayLeave, numbers_in};
 ghost use Rattle.wq_worker.specs.ValueState.{owner_in, sender_in, ran_pairs, HasRunBegunPairs, HasRunPairs};
 ghost use Rattle.wq_worker.specs.Deals.{DealsOut, DealsOutBy, BeginsValue, IsOwedPair, DealsInStep, DealsToEnd};
-ghost use Rattle.wq_worker.specs.Step.{RunsBy, FindsNothing};
+ghost use Rattle.wq_worker.specs.Step.{RunsBy, FindsNothing, LeavesRunning};
 ghost use Rattle.wq_worker.specs.Rows.{RunsSomeBy, DrainsBy, ServesBy, Along};
 ghost use Rattle.wq_worker.specs.Resting.{HasNoneLeft, rest_events, LeavesWork, IsReady, IsUnready};
 ghost use Rattle.wq_worker.specs.Destroy.{IsBookOf, DestroysBy, LeavesUnfinishedBy};
@@ -229,6 +229,7 @@ impl<V: Drop, W: ValueWork<V>> ValueWorker<V, W> {
         ensures learnt { Learnt (owner_in self.old) (owner_in self.new) }
         ensures owed { (k : ℕ) → result ≡ Owing k → IsOwedPair self.new }
         ensures none { result ≡ Nothing → HasNoneLeft self.new.worker.seen }
+        ensures running { LeavesRunning result self.new.worker.seen }
         ensures open { ¬ IsShut self.old.worker.seen → ¬ IsShut self.new.worker.seen }
         ensures unclosed { ¬ IsClosed self.old.worker.seen → ¬ IsClosed self.new.worker.seen }
         ensures closed { IsClosed self.old.worker.seen → IsClosed self.new.worker.seen }
@@ -335,6 +336,14 @@ impl<V: Drop, W: ValueWork<V>> ValueWorker<V, W> {
         ensures else_open { result ≡ false → ¬ IsClosed self.now.worker.seen → ¬ IsShut self.now.worker.seen }
     {
         self.pair.is_draining()
+    }
+
+    /// As `Worker::running`.
+    pub fn running(&self) -> Option<u32>
+        ensures runs { result ≡ running self.now.worker.seen }
+        ensures idle { result ≡ None → ¬ IsRunning self.now.worker.seen }
+    {
+        self.pair.running()
     }
 
     /// As `Worker::adjust`.

@@ -1,5 +1,5 @@
 //! A worker.
-ghost use Rattle.std.specs.Prelude.{◌≡◌, ◌↔◌, ℕ, ◌+◌, ◌<◌, false, Some, [], ◌∷◌, All, length, slice_index, IfOk, IfErr, IsOk, IsTrue, MatchOption, MatchResult};
+ghost use Rattle.std.specs.Prelude.{◌≡◌, ◌↔◌, ℕ, ◌+◌, ◌<◌, false, Some, None, [], ◌∷◌, All, length, slice_index, IfOk, IfErr, IsOk, IsTrue, MatchOption, MatchResult};
 ghost use mathlib.Core.List.{IsPrefix};
 ghost use Rattle.std.specs.Fn.{FnOnceTakesAtMut, FnOnceReturnsAtMut};
 ghost use Rattle.wq_words.specs.declared.event.Event.TheVariants.{Close};
@@ -15,7 +15,7 @@ ghost use Rattle.wq_ledger.specs.Totals.{own_totals};
 ghost use Rattle.wq_worker.specs.State.{items_among, IsSameWorker, Moves, IsMadeOf, IsNew};
 ghost use Rattle.wq_worker.specs.declared.ran.Ran.TheVariants.{Nothing, Owing};
 ghost use Rattle.wq_worker.specs.declared.drained.Drained.TheVariants.{Empty, TooLong};
-ghost use Rattle.wq_worker.specs.Step.{Runs, FindsNothing, Begins};
+ghost use Rattle.wq_worker.specs.Step.{Runs, FindsNothing, Begins, LeavesRunning};
 ghost use Rattle.wq_worker.specs.Rows.{RunsSome, Drains, Serves};
 ghost use Rattle.wq_worker.specs.Resting.{HasNoneLeft, rest_events, LeavesWork, IsReady, IsUnready};
 ghost use Rattle.wq_worker.specs.Destroy.{IsBookOf, Destroys, LeavesUnfinished};
@@ -200,6 +200,7 @@ impl<W: Work> Worker<W> {
         ensures runs { Runs W.may result self.old self.new }
         ensures owed { (k : ℕ) → result ≡ Owing k → IsContended self.old.number (slice_index self.new.unqueued 0) self.old.tries self.new.seen }
         ensures none { result ≡ Nothing → HasNoneLeft self.new.seen }
+        ensures running { LeavesRunning result self.new.seen }
         ensures open { ¬ IsShut self.old.seen → ¬ IsShut self.new.seen }
         ensures unclosed { ¬ IsClosed self.old.seen → ¬ IsClosed self.new.seen }
         ensures closed { IsClosed self.old.seen → IsClosed self.new.seen }
@@ -302,6 +303,14 @@ impl<W: Work> Worker<W> {
         ensures else_open { result ≡ false → ¬ IsClosed self.now.seen → ¬ IsShut self.now.seen }
     {
         self.pair.is_draining()
+    }
+
+    /// The number that runs: an execution that is owed, and that the next step goes on with.
+    pub fn running(&self) -> Option<u32>
+        ensures runs { result ≡ running self.now.seen }
+        ensures idle { result ≡ None → ¬ IsRunning self.now.seen }
+    {
+        self.pair.running()
     }
 
     /// Calls a closure on the work.

@@ -1,7 +1,7 @@
 use Rattle.wq_worker.proofs.Common.{rules, ◌≡◌, None, running, runs_none, learnt_on, Nothing, GivesBack, MayLeave, owner_in}
 use Rattle.wq_worker.proofs.Returned.{run_on}
 use Rattle.wq_worker.proofs.Going.{pairs_log, same_more, runs_by_seen}
-use Rattle.wq_worker.proofs.Rows.{runs_by_same, runs_by_legal, runs_by_open, runs_by_unclosed, runs_by_closed, runs_by_shut}
+use Rattle.wq_worker.proofs.Rows.{runs_by_same, runs_by_legal, runs_by_open, runs_by_unclosed, runs_by_closed, runs_by_shut, runs_by_running}
 use Rattle.wq_worker.proofs.Step.{runs_fresh}
 use Rattle.wq_worker.proofs.ValueStep.{settles_by, settles_fresh}
 use Rattle.wq_worker.proofs.Deals.{dealt_by_given}
@@ -166,3 +166,16 @@ returns-in-Some-clause-log_grows g c =
     pairs_log a b (w.log a.worker.work) (w.log b.worker.work) c.logged.ensures.log c.finish.ensures.logged
     (runs_by_seen (MayLeave w.may w.takes) (GivesBack w.takes) c.finish.result a.worker b.worker c.finish.ensures.runs)
     (returns-in-Some-clause-legal g c) c.finish.ensures.learnt
+
+pub returns-clause-running : goal.returns-clause-running
+returns-clause-running g c =
+    runs_by_running (MayLeave g.W.ValueWork.may g.W.ValueWork.takes) (GivesBack g.W.ValueWork.takes) c.finish-2.result c.args.self.now.worker c.finish-2.new.self.worker
+    (returns-clause-runs g c)
+
+pub returns-in_default-start-clause-running : goal.returns-in_default-start-clause-running
+returns-in_default-start-clause-running g c = c.in_default-start.ensures.outcome.3.0
+
+pub returns-in-Some-clause-running : goal.returns-in-Some-clause-running
+returns-in-Some-clause-running g c =
+    runs_by_running (MayLeave g.W.ValueWork.may g.W.ValueWork.takes) (GivesBack g.W.ValueWork.takes) c.finish.result c.args.self.now.worker c.finish.new.self.worker
+    c.finish.ensures.runs

@@ -1,6 +1,6 @@
 use Rattle.wq_worker.proofs.Common.{rules, ◌≡◌, None, running, Nothing, stays, runs_none}
 use Rattle.wq_worker.proofs.Going.{log_more, same_more, runs_by_seen}
-use Rattle.wq_worker.proofs.Rows.{worker_on, moves_same, runs_by_same, runs_by_legal, runs_by_open, runs_by_unclosed, runs_by_closed, runs_by_shut}
+use Rattle.wq_worker.proofs.Rows.{worker_on, moves_same, runs_by_same, runs_by_legal, runs_by_open, runs_by_unclosed, runs_by_closed, runs_by_shut, runs_by_running}
 use Rattle.wq_worker.proofs.Step.{runs_fresh, after_stays}
 use Rattle.wq_worker.proofs.worker.Worker.run_one.Goals as goal
 
@@ -102,3 +102,16 @@ returns-in-Some-clause-log_grows g c =
     let a = c.args.self.now in let b = c.finish.new.self in
     log_more a.layout b.layout a.seen b.seen (g.W.Work.log a.work) (g.W.Work.log b.work) c.logged.ensures.log c.finish.ensures.logged
     (returns-in-Some-clause-same g c).layout_is (runs_by_seen g.W.Work.may stays c.finish.result a b c.finish.ensures.runs)
+
+pub returns-clause-running : goal.returns-clause-running
+returns-clause-running g c =
+    runs_by_running g.W.Work.may stays c.finish-2.result c.args.self.now c.finish-2.new.self
+    (returns-clause-runs g c)
+
+pub returns-in_default-start-clause-running : goal.returns-in_default-start-clause-running
+returns-in_default-start-clause-running g c = c.in_default-start.ensures.3.0
+
+pub returns-in-Some-clause-running : goal.returns-in-Some-clause-running
+returns-in-Some-clause-running g c =
+    runs_by_running g.W.Work.may stays c.finish.result c.args.self.now c.finish.new.self
+    c.finish.ensures.runs
