@@ -257,6 +257,8 @@ impl<V: Drop, W: ValueWork<V>> ValueWorker<V, W> {
         ensures unclosed { ¬ IsClosed self.old.worker.seen → ¬ IsClosed self.new.worker.seen }
         ensures pairs { self.new.unqueued ≡ self.old.unqueued }
         ensures learnt { Learnt (owner_in self.old) (owner_in self.new) }
+        ensures same { IsSameWorker self.old.worker self.new.worker }
+        ensures legal { IsLegal self.new.worker.layout self.new.worker.seen }
     {
         if self.pair.running().is_some() {
             return None;

@@ -226,6 +226,8 @@ impl<W: Work> Worker<W> {
         ensures outcome { MatchOption result (IsUnready self.old self.new) (λ k. IsReady self.old k self.new) }
         ensures open { ¬ IsShut self.old.seen → ¬ IsShut self.new.seen }
         ensures unclosed { ¬ IsClosed self.old.seen → ¬ IsClosed self.new.seen }
+        ensures same { IsSameWorker self.old self.new }
+        ensures legal { IsLegal self.new.layout self.new.seen }
     {
         if self.pair.running().is_some() {
             return None;

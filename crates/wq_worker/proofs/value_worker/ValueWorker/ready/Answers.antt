@@ -1,8 +1,10 @@
 use Rattle.wq_worker.proofs.Common.{MatchOption, refl, sym, ◌∙◌, subst, IsRunning, Learnt, KnownValuePair, owner_of, taking, Both, IsReady, IsUnready}
-use Rattle.wq_worker.proofs.Common.{ValueWorkerState, owner_in, IsShut, IsClosed}
+use Rattle.wq_worker.proofs.Common.{ValueWorkerState, owner_in, IsShut, IsClosed, IsLegal}
 use Rattle.wq_worker.specs.Resting.{owed}
 use Rattle.wq_worker.proofs.Owned.{quiet_stays, owner_of_both}
 use Rattle.wq_worker.proofs.Running.{runs_told, idle_told}
+use Rattle.wq_worker.specs.State.{IsSameWorker}
+use Rattle.wq_worker.proofs.Rows.{worker_still, moves_same}
 use Rattle.wq_worker.proofs.State.{quiet_taking}
 use Rattle.wq_worker.proofs.Step.{moves_by}
 use Rattle.wq_worker.proofs.Resting.{ready_told}
@@ -55,3 +57,22 @@ returns-clause-unclosed g c =
     let s = quiet_stays (taking o.seen) o.seen p.seen (quiet_taking o.seen) (owner_of_both o.number (taking o.seen) 0 o.seen p.seen b.adds) in
     subst (λ (z : ValueWorkerState g.row.V.Denot g.row.W.Denot). ¬ IsClosed z.worker.seen → ¬ IsClosed p.seen) c.self.view_is
     (unclosed_still o.seen p.seen s.phase)
+
+pub returns-clause-same : goal.returns-clause-same
+returns-clause-same g c =
+    let i = c.self.inside in let o = i.pair.known in let p = c.take_next.new.pair.known in
+    let a : ValueWorkerState g.row.V.Denot g.row.W.Denot = value_state_of i.pair i.tries i.left.pairs i.work in
+    let w : ValueWorkerState g.row.V.Denot g.row.W.Denot = value_state_of c.take_next.new.pair i.tries i.left.pairs i.work in
+    subst (λ (z : ValueWorkerState g.row.V.Denot g.row.W.Denot). IsSameWorker z.worker w.worker) c.self.view_is
+    (moves_same (taking o.seen) 0 a.worker w.worker
+    (moves_by (taking o.seen) 0 i.tries w.worker.unqueued w.worker.unqueued i.work i.work o p c.take_next.ensures.both))
+
+pub returns-clause-legal : goal.returns-clause-legal
+returns-clause-legal g c = c.take_next.ensures.both.legal
+
+pub returns-then-is_some-clause-same : goal.returns-then-is_some-clause-same
+returns-then-is_some-clause-same g c = worker_still c.args.self.now.worker
+
+pub returns-then-is_some-clause-legal : goal.returns-then-is_some-clause-legal
+returns-then-is_some-clause-legal g c =
+    subst (λ (z : ValueWorkerState g.row.V.Denot g.row.W.Denot). IsLegal z.worker.layout z.worker.seen) c.self.view_is c.self.invariant.legal
