@@ -26,3 +26,4 @@ pub mod Settling
 pub mod Logged
 pub mod Begun
 pub mod Finishing
+pub mod Silent

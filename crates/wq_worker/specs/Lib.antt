@@ -11,6 +11,7 @@ pub mod Returned
 pub mod ValueState
 pub mod Deals
 pub mod Dealt
+pub mod Silent
 -- what its public clauses cite of the crates below, so that a caller names this crate alone
 pub use Rattle.wq_words.specs.History
 pub use Rattle.wq_words.specs.Legal

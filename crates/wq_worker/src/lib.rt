@@ -20,7 +20,7 @@ mod worker;
 
 pub use building::Unbuilt;
 pub use drained::{Drained, Unfinished};
-pub use laws::steps_go_on;
+pub use laws::{nothing_is_asked, steps_go_on};
 pub use patience::SHORT_TAKE;
 pub use ran::Ran;
 pub use station::Station;
