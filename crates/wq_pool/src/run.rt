@@ -147,6 +147,7 @@ impl<K: Station + Drop + Send> PoolOf<K> {
         requires { All (IsCallerOf self.now.ready) workers.old }
         ensures made { result ≡ Ok tt }
         ensures count { length workers.new ≡ length workers.old }
+        ensures ready { All (IsCallerOf self.now.ready) workers.new }
         ensures callers { (i : ℕ) (d : CallerState) → i < length workers.old → GoesOnFrom (slice_index_or workers.old i d) (slice_index_or workers.new i d) }
     {
         if workers.is_empty() {
