@@ -23,7 +23,7 @@ use wq_words::Answer;
 use wq_worker::Station;
 
 /// The most queues of a pool.
-const MOST_QUEUES: usize = 256;
+pub(crate) const MOST_QUEUES: usize = 256;
 
 /// Why no pool was made.
 #[derive(Clone, Copy, Debug, PartialEq, Eq, Error)]

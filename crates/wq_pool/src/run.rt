@@ -3,7 +3,7 @@ ghost use Rattle.std.specs.Prelude.{◌≡◌, ℕ, ◌<◌, length, slice_index
 ghost use Rattle.wq_ready.specs.Known.{CallerState, IsCallerOf};
 ghost use Rattle.wq_pool.specs.Pool.{GoesOnFrom, IsTurnOf};
 
-use crate::pool::PoolOf;
+use crate::pool::{MOST_QUEUES, PoolOf};
 use crate::turn::TurnOf;
 use std::alloc::AllocError;
 use std::sync::Wait;
@@ -21,9 +21,71 @@ fn share_of<K: Station>(turn: &TurnOf<K>) -> u32 {
     if turn.owes() { 1 } else { EXECUTIONS }
 }
 
+// There is a mark for each queue, since no pool has more.
+fn mark(marks: &mut [bool; MOST_QUEUES], queue: u32) {
+    if let Some(mark) = marks.get_mut(queue as usize) {
+        *mark = true;
+    }
+}
+
 impl<K: Station + Drop + Send> PoolOf<K> {
+    // Announces each queue that is marked, and takes its mark off. True where there was room for all.
+    fn announce_marked<R: Wait>(
+        &self,
+        rt: &R,
+        caller: &mut Caller,
+        marks: &mut [bool; MOST_QUEUES],
+    ) -> bool
+        requires { IsCallerOf self.now.ready caller.old }
+        ensures caller { IsCallerOf self.now.ready caller.new }
+        ensures goes_on { GoesOnFrom caller.old caller.new }
+    {
+        for (queue, is_marked) in marks.iter_mut().enumerate() {
+            if *is_marked {
+                if self.announce(rt, caller, queue as u32).is_err() {
+                    return false;
+                }
+                *is_marked = false;
+            }
+        }
+        true
+    }
+
+    // Takes what waits off the ready queue, and marks each queue of it.
+    fn mark_all<R: Wait>(&self, rt: &R, caller: &mut Caller, marks: &mut [bool; MOST_QUEUES])
+        requires { IsCallerOf self.now.ready caller.old }
+        ensures caller { IsCallerOf self.now.ready caller.new }
+        ensures goes_on { GoesOnFrom caller.old caller.new }
+    {
+        for _ in 0..self.slots.count() {
+            let Some(queue) = self.pick_number(rt, caller) else {
+                return;
+            };
+            mark(marks, queue);
+        }
+    }
+
+    // Announces a queue where the run ends, which looks at none any more. Where there is no room all that wait are taken off the
+    // ready queue, and announced anew with it, each queue once: so there is room for all, unless others announce meanwhile, whose
+    // announcements are then taken off too.
+    fn announce_last<R: Wait>(&self, rt: &R, caller: &mut Caller, queue: u32)
+        requires { IsCallerOf self.now.ready caller.old }
+        ensures caller { IsCallerOf self.now.ready caller.new }
+        ensures goes_on { GoesOnFrom caller.old caller.new }
+    {
+        let mut marks = [false; MOST_QUEUES];
+        mark(&mut marks, queue);
+        for _ in rt.forever() {
+            if self.announce_marked(rt, caller, &mut marks) {
+                return;
+            }
+            self.mark_all(rt, caller, &mut marks);
+        }
+        unreachable!()
+    }
+
     // Announces a queue again, behind all that wait. Where there is no room, the first that waits makes it, unless one did before:
-    // that one is to be looked at next.
+    // that one is to be looked at next. Once every queue has run its stop item there is room in any case.
     fn announce_again<R: Wait>(
         &self,
         rt: &R,
@@ -40,6 +102,10 @@ impl<K: Station + Drop + Send> PoolOf<K> {
         if self.announce(rt, caller, queue).is_ok() {
             return true;
         }
+        if self.has_stopped() {
+            self.announce_last(rt, caller, queue);
+            return true;
+        }
         if next.is_some() {
             return false;
         }
@@ -49,8 +115,7 @@ impl<K: Station + Drop + Send> PoolOf<K> {
 
     // Works at a queue until nothing is left to do, and lays it down. After its share of executions it is announced again, behind all
     // that wait, and laid down with what is left: announced first, since nobody finds a queue that lies there unannounced. Where an
-    // execution is owed, or there is still no room, it is worked on, unless every queue has run its stop item. Answers the queue that
-    // made room, if one had to.
+    // execution is owed, or there is still no room, it is worked on. Answers the queue that made room, if one had to.
     fn work_share<R: Wait, G: Gate>(
         &self,
         rt: &R,
@@ -77,8 +142,7 @@ impl<K: Station + Drop + Send> PoolOf<K> {
             self.count_stop(&mut turn);
             if !turn.owes() {
                 let is_announced = self.announce_again(rt, caller, turn.queue(), &mut next);
-                let is_over = self.has_stopped();
-                if is_announced || is_over {
+                if is_announced {
                     self.put_back(caller, turn.into_worked());
                     return next;
                 }
@@ -117,7 +181,7 @@ impl<K: Station + Drop + Send> PoolOf<K> {
         for _ in rt.forever() {
             if self.has_stopped() {
                 if let Some(queue) = next {
-                    let _ = self.announce(rt, caller, queue);
+                    self.announce_last(rt, caller, queue);
                 }
                 return;
             }
@@ -132,6 +196,9 @@ impl<K: Station + Drop + Send> PoolOf<K> {
     /// over. Where no thread can be made the callers serve in turn. Each caller comes back with what it has seen. A caller that
     /// finds nothing announced gives its processor way and looks again; it does not park. With no caller it ends at once, and so it
     /// does where each stop item has run before: what is queued after that is to be worked on by `pick`.
+    ///
+    /// What it leaves is announced when it ends, for `pick`: a queue in hand of which something is left is announced again, and so
+    /// is one that was taken off the ready queue and not looked at. One that was announced more than once may be so but once then.
     ///
     /// It does not end while a queue has no stop item to run: one that was closed without it, as all are after a `finish` that
     /// gave the pool back, is to be worked on by `pick`.

@@ -4,14 +4,17 @@ ghost use Rattle.wq_ready.specs.Known.{IsCallerOf};
 
 use crate::expect::expect_same;
 use crate::pool::serving::{Two, new_two};
-use crate::pool::team::{Guest, Logging, finish_unfinished, new_pool_for, queue_item};
+use crate::pool::team::{
+    Guest, Logging, Open, empty, finish_unfinished, new_pool_for, queue_item, serve_queue, work,
+};
+use std::alloc::Global;
 use std::process::Abort;
 use std::sync::Wait;
 use std::sync::atomic::AtomicU64;
 use std::sync::atomic::Ordering::SeqCst;
 use std::thread::{Threads, join, yield_now};
 use wq_live::Sender;
-use wq_pool::{Caller, Gate, Pool};
+use wq_pool::{Caller, Gate, Pool, Served};
 
 /// So often it is looked what the other thread has done.
 const LOOKS: u32 = 20_000_000;
@@ -33,6 +36,16 @@ struct Doorway {
     begun: AtomicU64,
     taken: AtomicU64,
     late: AtomicU64,
+}
+
+impl Doorway {
+    fn new() -> Doorway {
+        Doorway {
+            begun: AtomicU64::new(0),
+            taken: AtomicU64::new(0),
+            late: AtomicU64::new(0),
+        }
+    }
 }
 
 impl Gate for Doorway {
@@ -78,11 +91,7 @@ fn run_beside<R: Abort + Threads + Wait + Sync>(
     for queue in 0..2u32 {
         assert!(rt; guest.announce(rt, queue));
     }
-    let doorway = Doorway {
-        begun: AtomicU64::new(0),
-        taken: AtomicU64::new(0),
-        late: AtomicU64::new(0),
-    };
+    let doorway = Doorway::new();
     let (ran, ()) = join(
         rt,
         ||
@@ -108,4 +117,96 @@ fn restless_queue_gives_way_where_no_place_is_free(rt: HostRuntime) {
     run_beside(&rt, &pool, workers, caller, two);
     let (_pool, queue, left) = finish_unfinished(&rt, pool, 0);
     expect_same(&rt, (queue, left), (0, 1));
+}
+
+/// Three queues with their stop items queued, the last with many items behind it, and a sender of each of the others.
+struct Three {
+    queues: Vec<Served<Logging>>,
+    one: Sender,
+    two: Sender,
+}
+
+fn new_three<R: Abort>(rt: &R, alloc: Global) -> Three {
+    let Two {
+        mut queues,
+        mut one,
+        mut two,
+    } = new_two(rt, alloc, u32::MAX);
+    one.request_stop(1);
+    two.request_stop(1);
+    let (last, mut three) = empty(rt, alloc, 3000, Logging::new());
+    three.request_stop(1);
+    for item in 0..3000u32 {
+        queue_item(rt, &mut three, item);
+    }
+    queues.push(last).expect(rt, "memory");
+    Three { queues, one, two }
+}
+
+/// While an item of the last queue runs, one is queued on each of the others, and the second is announced once more.
+fn take_all_places<R: Abort + Wait>(
+    rt: &R,
+    guest: &mut Guest<'_>,
+    one: &mut Sender,
+    two: &mut Sender,
+    doorway: &Doorway,
+) {
+    assert!(rt; has_come(&doorway.begun));
+    let answer = queue_item(rt, one, 0);
+    guest.wake(rt, 0, answer);
+    let answer = queue_item(rt, two, 0);
+    guest.wake(rt, 1, answer);
+    assert!(rt; guest.announce(rt, 1));
+    doorway.taken.store(1, SeqCst);
+}
+
+/// One worker runs the pool, of which the last queue alone has not run its stop item.
+fn run_last<R: Abort + Threads + Wait + Sync>(
+    rt: &R,
+    guest: &mut Guest<'_>,
+    mut workers: Vec<Caller>,
+    mut one: Sender,
+    mut two: Sender,
+)
+    requires { All (IsCallerOf guest.old.pool.now.ready) workers.items }
+{
+    let pool = guest.pool;
+    let doorway = Doorway::new();
+    let (ran, ()) = join(
+        rt,
+        ||
+            requires { All (IsCallerOf pool.now.ready) workers.items }
+        { pool.run(rt, workers.as_mut_slice(), &doorway) },
+        || take_all_places(rt, guest, &mut one, &mut two, &doorway),
+    );
+    ran.expect(rt, "a thread");
+    expect_same(rt, doorway.late.load(SeqCst), 0);
+}
+
+/// Works at what is announced until nothing is, and answers how many announcements there were, of nine at most.
+fn serve_announced<R: Abort + Wait>(rt: &R, guest: &mut Guest<'_>) -> u32 {
+    for served in 0..9u32 {
+        let Some(turn) = guest.pool.pick(rt, &mut guest.caller) else {
+            return served;
+        };
+        let worked = work(rt, turn, 9999, &Open);
+        guest.pool.put_back(&mut guest.caller, worked);
+    }
+    9
+}
+
+/// A run that ends while no place is free leaves each queue announced, once, of which something is left.
+#[test]
+fn run_announces_what_it_leaves_where_no_place_is_free(rt: HostRuntime) {
+    let Three { queues, one, two } = new_three(&rt, rt.alloc());
+    let (pool, mut caller, workers) = new_pool_for(&rt, rt.alloc(), queues, 1);
+    serve_queue(&rt, &pool, &mut caller, 0);
+    serve_queue(&rt, &pool, &mut caller, 1);
+    let mut guest = Guest::new(&pool, caller);
+    assert!(rt; guest.announce(&rt, 2));
+    run_last(&rt, &mut guest, workers, one, two);
+    let served = serve_announced(&rt, &mut guest);
+    expect_same(&rt, served, 3);
+    let finished = pool.finish(0).expect(&rt, "all finished");
+    expect_same(&rt, finished.len(), 3);
 }

@@ -8,8 +8,8 @@ returns-then-is_announced-clause-goes_on g c =
     subst (λ (z : CallerState). GoesOnFrom a z) (sym c.put_back-then-is_announced.ensures)
     (goes_on a b d c.loop.invariant.1 c.announce_again-is_announced.ensures.goes_on)
 
-pub loop-preserved-then-not-owes : goal.loop-preserved-then-not-owes
-loop-preserved-then-not-owes g c =
+pub loop-preserved-else-is_announced : goal.loop-preserved-else-is_announced
+loop-preserved-else-is_announced g c =
     let a = c.args.caller.now in let b = c.loop.caller in let d = c.announce_again-is_announced.new.caller in (
       c.announce_again-is_announced.ensures.caller,
       goes_on a b d c.loop.invariant.1 c.announce_again-is_announced.ensures.goes_on,
