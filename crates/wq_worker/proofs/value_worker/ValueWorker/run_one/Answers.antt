@@ -169,7 +169,8 @@ returns-in-Some-clause-log_grows g c =
 
 pub returns-clause-running : goal.returns-clause-running
 returns-clause-running g c =
-    runs_by_running (MayLeave g.W.ValueWork.may g.W.ValueWork.takes) (GivesBack g.W.ValueWork.takes) c.finish-2.result c.args.self.now.worker c.finish-2.new.self.worker
+    runs_by_running (MayLeave g.W.ValueWork.may g.W.ValueWork.takes) (GivesBack g.W.ValueWork.takes)
+    c.finish-2.result c.args.self.now.worker c.finish-2.new.self.worker
     (returns-clause-runs g c)
 
 pub returns-in_default-start-clause-running : goal.returns-in_default-start-clause-running
@@ -177,5 +178,6 @@ returns-in_default-start-clause-running g c = c.in_default-start.ensures.outcome
 
 pub returns-in-Some-clause-running : goal.returns-in-Some-clause-running
 returns-in-Some-clause-running g c =
-    runs_by_running (MayLeave g.W.ValueWork.may g.W.ValueWork.takes) (GivesBack g.W.ValueWork.takes) c.finish.result c.args.self.now.worker c.finish.new.self.worker
+    runs_by_running (MayLeave g.W.ValueWork.may g.W.ValueWork.takes) (GivesBack g.W.ValueWork.takes)
+    c.finish.result c.args.self.now.worker c.finish.new.self.worker
     c.finish.ensures.runs
