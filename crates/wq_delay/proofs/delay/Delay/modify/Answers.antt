@@ -1,4 +1,4 @@
-use Rattle.wq_delay.proofs.Common.{◌+◌, refl, sym, ap, ◌∙◌, on_table, without, DelayState}
+use Rattle.wq_delay.proofs.Common.{rules, ◌+◌, refl, sym, ap, ◌∙◌, on_table, without, DelayState}
 use Rattle.wq_delay.proofs.Sound.{fit_at, sound_moves}
 use Rattle.wq_delay.proofs.OnTable.{placed_on, placed_others, without_others, posts_others}
 use Rattle.wq_delay.proofs.Accepted.{late_unqueued, posted_more, posted_still}
@@ -30,12 +30,12 @@ returns-then-delay-eq0-clause-other_items c =
 pub returns-then-delay-eq0-clause-posted : goal.returns-then-delay-eq0-clause-posted
 returns-then-delay-eq0-clause-posted c =
     λ is none. posted_more c.args.item c.args.tries c.post_item.result c.args.self.now c.post_item.new.self c.post_item.ensures.posts
-    (sym c.modified_of_posted.ensures ∙ is)
+    (search rules)
 
 pub returns-then-delay-eq0-clause-unqueued : goal.returns-then-delay-eq0-clause-unqueued
 returns-then-delay-eq0-clause-unqueued c =
     λ idle other. posted_still c.args.item c.args.tries c.post_item.result c.args.self.now c.post_item.new.self c.post_item.ensures.posts
-    (λ is. other (c.modified_of_posted.ensures ∙ is))
+    (λ is. other (search rules))
 
 pub returns-then-not-has-clause-unqueued : goal.returns-then-not-has-clause-unqueued
 returns-then-not-has-clause-unqueued c =
