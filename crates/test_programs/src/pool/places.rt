@@ -160,29 +160,6 @@ fn take_all_places<R: Abort + Wait>(
     doorway.taken.store(1, SeqCst);
 }
 
-/// One worker runs the pool, of which the last queue alone has not run its stop item.
-fn run_last<R: Abort + Threads + Wait + Sync>(
-    rt: &R,
-    guest: &mut Guest<'_>,
-    mut workers: Vec<Caller>,
-    mut one: Sender,
-    mut two: Sender,
-)
-    requires { All (IsCallerOf guest.old.pool.now.ready) workers.items }
-{
-    let pool = guest.pool;
-    let doorway = Doorway::new();
-    let (ran, ()) = join(
-        rt,
-        ||
-            requires { All (IsCallerOf pool.now.ready) workers.items }
-        { pool.run(rt, workers.as_mut_slice(), &doorway) },
-        || take_all_places(rt, guest, &mut one, &mut two, &doorway),
-    );
-    ran.expect(rt, "a thread");
-    expect_same(rt, doorway.late.load(SeqCst), 0);
-}
-
 /// Works at what is announced until nothing is, and answers how many announcements there were, of nine at most.
 fn serve_announced<R: Abort + Wait>(rt: &R, guest: &mut Guest<'_>) -> u32 {
     for served in 0..9u32 {
@@ -195,6 +172,33 @@ fn serve_announced<R: Abort + Wait>(rt: &R, guest: &mut Guest<'_>) -> u32 {
     9
 }
 
+/// One worker runs the pool, of which the last queue alone has not run its stop item. Answers how many announcements are found then.
+fn run_last<R: Abort + Threads + Wait + Sync>(
+    rt: &R,
+    pool: &Pool<Logging>,
+    mut workers: Vec<Caller>,
+    caller: Caller,
+    mut one: Sender,
+    mut two: Sender,
+) -> u32
+    requires workers { All (IsCallerOf pool.now.ready) workers.items }
+    requires caller { IsCallerOf pool.now.ready caller }
+{
+    let mut guest = Guest::new(pool, caller);
+    assert!(rt; guest.announce(rt, 2));
+    let doorway = Doorway::new();
+    let (ran, ()) = join(
+        rt,
+        ||
+            requires { All (IsCallerOf pool.now.ready) workers.items }
+        { pool.run(rt, workers.as_mut_slice(), &doorway) },
+        || take_all_places(rt, &mut guest, &mut one, &mut two, &doorway),
+    );
+    ran.expect(rt, "a thread");
+    expect_same(rt, doorway.late.load(SeqCst), 0);
+    serve_announced(rt, &mut guest)
+}
+
 /// A run that ends while no place is free leaves each queue announced, once, of which something is left.
 #[test]
 fn run_announces_what_it_leaves_where_no_place_is_free(rt: HostRuntime) {
@@ -202,10 +206,7 @@ fn run_announces_what_it_leaves_where_no_place_is_free(rt: HostRuntime) {
     let (pool, mut caller, workers) = new_pool_for(&rt, rt.alloc(), queues, 1);
     serve_queue(&rt, &pool, &mut caller, 0);
     serve_queue(&rt, &pool, &mut caller, 1);
-    let mut guest = Guest::new(&pool, caller);
-    assert!(rt; guest.announce(&rt, 2));
-    run_last(&rt, &mut guest, workers, one, two);
-    let served = serve_announced(&rt, &mut guest);
+    let served = run_last(&rt, &pool, workers, caller, one, two);
     expect_same(&rt, served, 3);
     let finished = pool.finish(0).expect(&rt, "all finished");
     expect_same(&rt, finished.len(), 3);
