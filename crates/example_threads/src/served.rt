@@ -1,11 +1,12 @@
 //! A worker that serves in a thread of its own, and beside it two senders in theirs.
 ghost use Rattle.std.specs.Prelude.{◌≡◌, ◌+◌, ◌*◌, ◌<◌, ◌≤◌, [], IfOk};
-ghost use Rattle.wq_worker.specs.History.{accepted, ended, IsShut};
+ghost use Rattle.wq_worker.specs.History.{accepted, ended, IsRunning, IsShut};
 ghost use Rattle.wq_worker.specs.Legal.{IsLegal, IsComplete};
 ghost use Rattle.wq_worker.specs.Headline.{KeepsHeadline};
-ghost use Rattle.wq_worker.specs.Seen.{own};
+ghost use Rattle.wq_worker.specs.Seen.{own, owner_seat};
 ghost use Rattle.wq_worker.specs.Known.{new_sender};
 ghost use Rattle.wq_worker.specs.Book.{IsLedgerOf};
+ghost use Rattle.wq_worker.specs.Silent.{AddsNoNumber};
 ghost use Rattle.wq_worker.specs.State.{IsSameWorker, items_among};
 ghost use Rattle.example_threads.specs.Met.{TellsOwn, QueuedAsTold};
 
@@ -20,7 +21,7 @@ use thiserror::Error;
 use trail::Trail;
 use wq_live::Sender;
 use wq_words::Layout;
-use wq_worker::{Book, Ledger, Totals, Unbalanced, Unbuilt, Worker};
+use wq_worker::{Book, Ledger, Totals, Unbalanced, Unbuilt, Worker, nothing_is_asked};
 
 /// The work and the book of a queue that was destroyed, its two senders, which have met the book, and the sums of all counts.
 #[derive(Drop)]
@@ -78,11 +79,16 @@ fn queue_and_stop<R: Threads + Wait + Sync>(
     }
 }
 
-/// Serves until the stop item ran.
+/// Serves until the stop item ran. The worker queues nothing, since its work asks for nothing.
 fn serve<R: Wait>(rt: &R, mut worker: Worker<Runs>, parker: &Parker) -> Worker<Runs>
     requires open { ¬ IsShut worker.seen }
+    requires idle { ¬ IsRunning worker.seen }
     ensures same { IsSameWorker worker result }
+    ensures idle { ¬ IsRunning result.seen }
+    ensures silent { AddsNoNumber worker.number worker.seen result.seen }
 {
+    worker.legal();
+    nothing_is_asked::<Worker<Runs>>();
     worker.serve(rt, parker);
     worker
 }
@@ -96,8 +102,27 @@ fn balance(book: &Book, one: Ledger, other: Ledger) -> Result<Totals, Unbalanced
     book.balance([one, other].as_slice())
 }
 
+/// Destroys a worker of which nothing runs. It queues nothing by that, since its work asks for nothing.
+fn destroy(worker: Worker<Runs>) -> Result<(Runs, Book), Unserved>
+    requires idle { ¬ IsRunning worker.seen }
+    ensures same { IfOk result (λ r. (r.1.queue ≡ worker.queue) × (r.1.layout ≡ worker.layout)) }
+    ensures ran { IfOk result (λ r. r.0.ran.items ≡ items_among r.1.layout (accepted r.1.seen)) }
+    ensures silent { IfOk result (λ r. AddsNoNumber worker.number worker.seen r.1.seen) }
+{
+    worker.legal();
+    nothing_is_asked::<Worker<Runs>>();
+    match worker.destroy(u32::MAX) {
+        Ok(parts) => Ok(parts),
+        Err(unfinished) => Err(Unserved::Left(unfinished.left)),
+    }
+}
+
 /// Destroys a worker that has served. Its senders meet the book, which then balances.
 fn finish(worker: Worker<Runs>, mut first: Told, mut second: Told) -> Result<Served, Unserved>
+    requires number { worker.number ≡ 2 }
+    requires idle { ¬ IsRunning worker.seen }
+    requires of_worker { accepted (own 2 worker.seen) ≡ [] }
+    requires of_owner { accepted (own owner_seat worker.seen) ≡ [] }
     requires first { TellsOwn worker.queue 0 first }
     requires second { TellsOwn worker.queue 1 second }
     ensures layout { IfOk result (λ r. r.book.layout ≡ worker.layout) }
@@ -110,12 +135,11 @@ fn finish(worker: Worker<Runs>, mut first: Told, mut second: Told) -> Result<Ser
     ensures second { IfOk result (λ r. TellsOwn r.book.queue 1 r.second) }
     ensures of_first { IfOk result (λ r. accepted (own 0 r.book.seen) ≡ r.first.queued.items) }
     ensures of_second { IfOk result (λ r. accepted (own 1 r.book.seen) ≡ r.second.queued.items) }
+    ensures of_worker { IfOk result (λ r. accepted (own 2 r.book.seen) ≡ []) }
+    ensures nothing_else { IfOk result (λ r. accepted (own owner_seat r.book.seen) ≡ []) }
     ensures balance { IfOk result (λ r. r.totals.queued + r.totals.chained ≡ r.totals.executed) }
 {
-    let (work, mut book) = match worker.destroy(u32::MAX) {
-        Ok(parts) => parts,
-        Err(unfinished) => return Err(Unserved::Left(unfinished.left)),
-    };
+    let (work, mut book) = destroy(worker)?;
     let one = book.meet(&mut first.sender);
     let other = book.meet(&mut second.sender);
     book.legal();
@@ -141,17 +165,20 @@ fn serve_beside<R: Threads + Wait + Sync>(
 ) -> (Worker<Runs>, Both)
     requires items { each * 2 ≤ worker.layout.items }
     requires open { ¬ IsShut worker.seen }
+    requires idle { ¬ IsRunning worker.seen }
     requires first { first ≡ new_sender worker.queue worker.layout 0 }
     requires second { second ≡ new_sender worker.queue worker.layout 1 }
     ensures same { IsSameWorker worker result.0 }
+    ensures idle { ¬ IsRunning result.0.seen }
+    ensures silent { AddsNoNumber worker.number worker.seen result.0.seen }
     ensures first { TellsOwn result.0.queue 0 result.1.first }
     ensures second { TellsOwn result.0.queue 1 result.1.second }
 {
     join(
         rt,
         move ||
-            requires { ¬ IsShut worker.seen }
-            ensures { IsSameWorker worker result }
+            requires { (¬ IsShut worker.seen) × (¬ IsRunning worker.seen) }
+            ensures { IsSameWorker worker result × (¬ IsRunning result.seen) × AddsNoNumber worker.number worker.seen result.seen }
         { serve(rt, worker, &parker) },
         move ||
             requires { (each * 2 ≤ first.layout.items) × (each * 2 ≤ second.layout.items) × (first.seen ≡ []) × (second.seen ≡ []) }
@@ -161,7 +188,7 @@ fn serve_beside<R: Threads + Wait + Sync>(
 }
 
 /// The same on a new queue, with so many items of each sender. Where it is Ok all that was accepted ran, in its order and once:
-/// of each sender what it was answered `Queued` for, in its order. Nothing is left, and the book balances.
+/// of each sender what it was answered `Queued` for, in its order, and nothing else. Nothing is left, and the book balances.
 pub fn run_served<R: Threads + Wait + Sync>(
     rt: &R,
     alloc: Global,
@@ -180,6 +207,8 @@ pub fn run_served<R: Threads + Wait + Sync>(
     ensures second { IfOk result (λ r. TellsOwn r.book.queue 1 r.second) }
     ensures of_first { IfOk result (λ r. accepted (own 0 r.book.seen) ≡ r.first.queued.items) }
     ensures of_second { IfOk result (λ r. accepted (own 1 r.book.seen) ≡ r.second.queued.items) }
+    ensures of_worker { IfOk result (λ r. accepted (own 2 r.book.seen) ≡ []) }
+    ensures nothing_else { IfOk result (λ r. accepted (own owner_seat r.book.seen) ≡ []) }
     ensures balance { IfOk result (λ r. r.totals.queued + r.totals.chained ≡ r.totals.executed) }
 {
     let parker = Parker::new(alloc)?;
