@@ -196,7 +196,9 @@ files=$(grep -oE 'examples/c/[a-z.]+' docs/C.md)
 for file in $files; do
     [ -e "$work/installed/share/doc/yeangvos/$file" ] || { echo "docs/C.md names $file, which is not installed"; exit 1; }
 done
-defined=$(nm -D --defined-only "$work/libyeangvos.so" | awk '{ print $3 }' | grep -vE '^(wq_c_[a-z_]+|rattle_(alloc|realloc|dealloc))$' || true)
+names=$(nm -D --defined-only "$work/libyeangvos.so" | awk '{ print $3 }')
+grep -q '^wq_c_build$' <<<"$names" || { echo "the library defines no wq_c_build"; exit 1; }
+defined=$(grep -vE '^(wq_c_[a-z_]+|rattle_(alloc|realloc|dealloc))$' <<<"$names" || true)
 [ -z "$defined" ] || { echo "the library defines names that docs/C.md does not tell: $defined"; exit 1; }
 if command -v pkg-config >/dev/null; then
     export LD_LIBRARY_PATH=$work/running PKG_CONFIG_PATH=$work/installed/lib/pkgconfig

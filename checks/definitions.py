@@ -39,10 +39,10 @@ def home_of(crate, file, word):
 
 
 def imported(text):
-    """Crate and word of what a file of code imports from definitions, the types of the code itself left out."""
+    """Crate and word of what a file of code imports from definitions, and what it calls it, the types of the code itself left out."""
     uses = re.findall(r"^\s*ghost use Rattle\.(\w+)\.specs\.(?!declared\b)([\w.]+)\.\{([^}]*)\};", text, re.M)
-    cited = [(crate, file, word.strip()) for crate, file, words in uses if crate in CRATES for word in words.split(",")]
-    return {(home_of(crate, file, word), word) for crate, file, word in cited}
+    split = [(crate, file, word.strip().partition(" as ")) for crate, file, words in uses if crate in CRATES for word in words.split(",")]
+    return {(home_of(crate, file, word), word, name or word) for crate, file, (word, _, name) in split}
 
 
 def clauses_of(lines, indent):
@@ -77,8 +77,9 @@ def contract_words():
         if place.parts[1] not in PROMISE_NOTHING:
             text = file.read_text()
             clauses = public_clauses(text)
-            cited = (it for it in imported(text) if re.search(rf"(?<![\w.]){re.escape(it[1])}(?![\w?'])", clauses))
-            words.update((it, place) for it in cited)
+            for crate, word, name in imported(text):
+                if re.search(rf"(?<![\w.]){re.escape(name)}(?![\w?'])", clauses):
+                    words[crate, word] = place
     return words
 
 

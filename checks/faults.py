@@ -72,8 +72,9 @@ def faults_of(runner, name, words, text):
     right, _ = runner.run(words, text)
     found, count = [], 0
     for fault in EVERY_CALL:
-        got, _ = runner.run(words, text, fault)
+        got, has_come = runner.run(words, text, fault)
         found += [f"{name}, {fault}: {got} and not {right}"] if got != right else []
+        found += [f"{name}: no {fault} ever comes"] if not has_come else []
         count += 1
     for fault in FAULTS:
         if fault == "thread fails" and not words.startswith("live"):
