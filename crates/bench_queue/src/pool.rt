@@ -14,7 +14,7 @@ use std::sync::Wait;
 use std::sync::atomic::AtomicU64;
 use std::thread::{Threads, for_each_mut, join_mut};
 use wq_live::Sender;
-use wq_pool::{Caller, Gate, Pool, Served};
+use wq_pool::{Caller, NoGate, Pool, Served};
 use wq_words::{Layout, LayoutError};
 use wq_worker::{Book, Worker};
 
@@ -32,15 +32,6 @@ pub struct Load {
 pub struct Ran {
     pub items: u64,
     pub strays: u64,
-}
-
-/// A gate that does nothing.
-struct NoGate;
-
-impl Gate for NoGate {
-    fn before(&self, _queue: u32, _item: u32) {}
-
-    fn after(&self, _queue: u32, _item: u32) {}
 }
 
 impl Load {

@@ -1,3 +1,4 @@
 pub mod Lines
+pub mod Quiet
 pub mod Messages
 pub mod Turned

@@ -8,15 +8,16 @@ use Rattle.wq_words.specs.Seen.{own}
 use Rattle.wq_words.specs.Legal.{IsComplete}
 use Rattle.wq_words.specs.Headline.{KeepsHeadline}
 use Rattle.wq_words.specs.Valued.{IsLegalWith, with_values}
-use Rattle.wq_live.specs.Known.{Known}
-use Rattle.wq_live.specs.KnownWith.{KnownWith}
-use Rattle.wq_live.specs.OwnBrought.{own_brought}
-use Rattle.wq_worker.specs.Returned.{pairs_of}
+use Rattle.wq_values.specs.Known.{Known}
+use Rattle.wq_values.specs.KnownWith.{KnownWith}
+use Rattle.wq_values.specs.OwnBrought.{own_brought}
+use Rattle.wq_value_worker.specs.Returned.{pairs_of}
 use Rattle.example_log.specs.declared.ending.Written.{Written}
 use Rattle.example_log.specs.declared.message.Log.{Log}
 use Rattle.example_log.specs.declared.message.Message.{Message}
 use Rattle.example_log.specs.Text.{Line, text_of}
 use Rattle.example_log.specs.Sent.{own_lines, lines_to, OnlyStops, StopsAlone}
+use Rattle.example_log.specs.Quiet.{IsQuiet}
 use Rattle.example_log.specs.Written.{HasLines}
 
 -- what a log has, from what its senders say
@@ -29,9 +30,9 @@ pub has_lines : (log : Log) (layout : Layout) (one two three : KnownWith Line) (
     → own_brought two.known.number w.book.book.seen w.book.brought ≡ own_lines two
     → accepted (own three.known.number w.book.book.seen) ≡ accepted (own three.known.number three.known.seen)
     → own_lines one ≡ map Some (lines_to log (take a first)) → own_lines two ≡ map Some (lines_to log (take b second))
-    → w.of_first ≡ a → w.of_second ≡ b → HasLines log layout w.book.book.seen w.book.brought first second w
+    → w.of_first ≡ a → w.of_second ≡ b → IsQuiet w.book.book.seen → HasLines log layout w.book.book.seen w.book.brought first second w
 has_lines log layout one two three last first second a b w size legal ended text zero one' two' sized stops mine theirs its sent_one sent_two
-    first_is second_is = record {
+    first_is second_is quiet = record {
       legal = subst (λ (l : Layout). IsLegalWith l (with_values w.book.book.seen w.book.brought)) size legal;
       complete = ended.0;
       headline = ended.1;
@@ -40,6 +41,7 @@ has_lines log layout one two three last first second a b w size legal ended text
       of_second = of second one' theirs sent_two second_is;
       of_third = subst (All (λ k. k ≡ stop_number layout)) (sym (subst Same (stops.same.number_is ∙ two') its))
           (subst (λ k. OnlyStops layout k three.known.seen) two' (subst (λ (l : Layout). OnlyStops l last.number three.known.seen) sized stops.only_stops));
+      of_worker = quiet;
     }
   where
     Same : ℕ → Type 0

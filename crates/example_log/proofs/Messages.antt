@@ -5,7 +5,7 @@ use Rattle.std.proofs.lemmas.List.Elements.{filter_map-append}
 use Rattle.std.specs.Iterator.{Yields}
 use Rattle.std.specs.Vec.Iter.{into_iter_items, into_iter_steps}
 use Rattle.std.specs.declared.vec.IntoIter.{IntoIter}
-use Rattle.wq_live.specs.Known.{Known, IsSame}
+use Rattle.wq_values.specs.Known.{Known, IsSame}
 use Rattle.example_log.specs.declared.sending.Client.{Client}
 use Rattle.example_log.specs.declared.sending.Sent.{Sent}
 use Rattle.example_log.specs.declared.message.Log.{Log}

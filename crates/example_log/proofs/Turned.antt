@@ -6,7 +6,7 @@ use Rattle.wq_words.specs.declared.event.Event.{Event}
 use Rattle.wq_words.specs.declared.event.Event.TheVariants.{Hold, Back}
 use Rattle.wq_words.specs.declared.event.Why.{Why}
 use Rattle.wq_words.specs.Seen.{own, seat_of}
-use Rattle.wq_live.specs.Known.{Known, Sees}
+use Rattle.wq_values.specs.Known.{Known, Sees}
 use Rattle.example_log.specs.declared.message.Message.{Message}
 use Rattle.example_log.specs.Sent.{takes_no_more, WasTurnedAway, from_access, from_errors, SendsUnlessTurned}
 

@@ -1,3 +1,4 @@
 pub mod Sent
 pub mod Text
+pub mod Quiet
 pub mod Written

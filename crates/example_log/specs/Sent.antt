@@ -8,9 +8,9 @@ use Rattle.wq_words.specs.declared.event.Why.TheVariants as why
 use Rattle.wq_words.specs.History.{accepted}
 use Rattle.wq_words.specs.Numbers.{stop_number}
 use Rattle.wq_words.specs.Seen.{own}
-use Rattle.wq_live.specs.Known.{Known, IsSame}
-use Rattle.wq_live.specs.KnownWith.{KnownWith}
-use Rattle.wq_live.specs.OwnBrought.{own_brought}
+use Rattle.wq_values.specs.Known.{Known, IsSame}
+use Rattle.wq_values.specs.KnownWith.{KnownWith}
+use Rattle.wq_values.specs.OwnBrought.{own_brought}
 use Rattle.wq_ready.specs.Known.{Identity, IsCallerOf}
 use Rattle.example_log.specs.declared.message.Log.{Log}
 use Rattle.example_log.specs.declared.message.Log.TheVariants.{Access, Errors}

@@ -6,17 +6,18 @@ use Rattle.wq_words.specs.History.{accepted}
 use Rattle.wq_words.specs.Legal.{IsComplete}
 use Rattle.wq_words.specs.Headline.{KeepsHeadline}
 use Rattle.wq_words.specs.Valued.{IsLegalWith, with_values}
-use Rattle.wq_live.specs.OwnBrought.{own_brought}
-use Rattle.wq_worker.specs.Returned.{pairs_of}
+use Rattle.wq_values.specs.OwnBrought.{own_brought}
+use Rattle.wq_value_worker.specs.Returned.{pairs_of}
 use Rattle.example_log.specs.declared.message.Log.{Log}
 use Rattle.example_log.specs.declared.message.Message.{Message}
 use Rattle.example_log.specs.declared.ending.Written.{Written}
 use Rattle.example_log.specs.Text.{Line, text_of}
 use Rattle.example_log.specs.Sent.{lines_to, OnlyStops}
+use Rattle.example_log.specs.Quiet.{IsQuiet}
 
 -- A legal and complete history of the log's queue, with the lines that its events carry. The text is the lines of the items that
--- were accepted, in order; each client's queueings brought the lines of those of its messages that it sent, in order; and of the
--- third sender no other number than the stop item was accepted, which brings no line.
+-- were accepted, in order; each client's queueings brought the lines of those of its messages that it sent, in order; of the third
+-- sender no other number than the stop item was accepted, which brings no line; and of the log's worker nothing.
 pub record HasLines (log : Log) (layout : Layout) (h : List Event) (brought : List (Option Line))
     (first second : List Message) (written : Written) : Type 0 where
   pub legal : IsLegalWith layout (with_values h brought)
@@ -26,3 +27,4 @@ pub record HasLines (log : Log) (layout : Layout) (h : List Event) (brought : Li
   pub of_first : own_brought 0 h brought ≡ map Some (lines_to log (take written.of_first first))
   pub of_second : own_brought 1 h brought ≡ map Some (lines_to log (take written.of_second second))
   pub of_third : OnlyStops layout 2 h
+  pub of_worker : IsQuiet h

@@ -8,8 +8,9 @@ use crate::sending::{ACCESS, Client, ERRORS, ITEMS, Sent, send_all, stop};
 use crate::writer::Writer;
 use std::sync::Wait;
 use std::thread::{Threads, join};
-use wq_live::ValueSender;
-use wq_pool::{Caller, ValuePool};
+use wq_pool::Caller;
+use wq_value_pool::ValuePool;
+use wq_values::ValueSender;
 
 // One of the callers that are left.
 fn caller_of(pool: &ValuePool<Line, Writer>, callers: &mut Vec<Caller>) -> Caller

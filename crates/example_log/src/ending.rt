@@ -4,18 +4,19 @@ ghost use Rattle.wq_pool.specs.History.{accepted};
 ghost use Rattle.wq_pool.specs.Legal.{IsComplete};
 ghost use Rattle.wq_pool.specs.Seen.{own};
 ghost use Rattle.wq_pool.specs.Headline.{KeepsHeadline};
-ghost use Rattle.wq_pool.specs.Valued.{IsLegalWith, with_values};
-ghost use Rattle.wq_pool.specs.OwnBrought.{own_brought};
+ghost use Rattle.wq_value_pool.specs.Valued.{IsLegalWith, with_values};
+ghost use Rattle.wq_value_pool.specs.OwnBrought.{own_brought};
 ghost use mathlib.Core.List.{IsPrefix};
-ghost use Rattle.wq_pool.specs.Returned.{pairs_of};
+ghost use Rattle.wq_value_pool.specs.Returned.{pairs_of};
 ghost use Rattle.example_log.specs.Sent.{own_lines};
+ghost use Rattle.example_log.specs.Quiet.{IsQuiet};
 ghost use Rattle.example_log.specs.Text.{text_of};
 
 use crate::error::LogError;
 use crate::message::Line;
 use crate::writer::Writer;
-use wq_live::ValueSender;
-use wq_worker::ValueBook;
+use wq_value_worker::ValueBook;
+use wq_values::ValueSender;
 
 /// A log that has come to its end: its text, its queue's book, and how many of its messages each client sent.
 #[derive(Drop)]
@@ -40,6 +41,7 @@ fn meet(
     ensures of_first { own_brought first.known.number book.new.book.seen book.new.brought ≡ own_lines first }
     ensures of_second { own_brought second.known.number book.new.book.seen book.new.brought ≡ own_lines second }
     ensures of_third { accepted (own third.known.number book.new.book.seen) ≡ accepted (own third.known.number third.known.seen) }
+    ensures of_worker { IsQuiet book.old.book.seen → IsQuiet book.new.book.seen }
     ensures seen_by_first { IsPrefix first.known.seen book.new.book.seen }
     ensures seen_by_second { IsPrefix second.known.seen book.new.book.seen }
 {
@@ -58,6 +60,7 @@ pub(crate) fn ended(
 ) -> Result<Written, LogError>
     requires queue { (first.known.queue ≡ finished.1.book.queue) × (second.known.queue ≡ finished.1.book.queue)
         × (third.known.queue ≡ finished.1.book.queue) }
+    requires quiet { IsQuiet finished.1.book.seen }
     requires ran { finished.0.ran ≡ pairs_of (accepted finished.1.book.seen) finished.1.brought }
     ensures layout { IfOk result (λ w. w.book.book.layout ≡ finished.1.book.layout) }
     ensures legal { IfOk result (λ w. IsLegalWith w.book.book.layout (with_values w.book.book.seen w.book.brought)) }
@@ -66,6 +69,7 @@ pub(crate) fn ended(
     ensures of_first { IfOk result (λ w. own_brought first.known.number w.book.book.seen w.book.brought ≡ own_lines first) }
     ensures of_second { IfOk result (λ w. own_brought second.known.number w.book.book.seen w.book.brought ≡ own_lines second) }
     ensures of_third { IfOk result (λ w. accepted (own third.known.number w.book.book.seen) ≡ accepted (own third.known.number third.known.seen)) }
+    ensures of_worker { IfOk result (λ w. IsQuiet w.book.book.seen) }
     ensures counts { IfOk result (λ w. (w.of_first ≡ counts.0) × (w.of_second ≡ counts.1)) }
     ensures seen_by_first { IfOk result (λ w. IsPrefix first.known.seen w.book.book.seen) }
     ensures seen_by_second { IfOk result (λ w. IsPrefix second.known.seen w.book.book.seen) }

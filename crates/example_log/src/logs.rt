@@ -2,24 +2,27 @@
 ghost use Rattle.std.specs.Prelude.{◌≡◌, ◌≤◌, ◌∷◌, [], All, IfOk, length};
 ghost use Rattle.wq_pool.specs.History.{IsRunning, IsShut};
 ghost use Rattle.wq_pool.specs.Known.{IsCallerOf};
-ghost use Rattle.wq_pool.specs.Finished.{AreFinishedBy};
+ghost use Rattle.wq_pool.specs.Finished.{AreFinishedBy, BeginAsHandedIn};
 ghost use Rattle.wq_pool.specs.WorkerId.{worker_id};
-ghost use Rattle.wq_pool.specs.ValueState.{HasRunPairs};
+ghost use Rattle.wq_value_pool.specs.ValueState.{HasRunPairs};
 ghost use Rattle.example_log.specs.declared.message.Log.TheVariants as log;
 ghost use Rattle.example_log.specs.Sent.{SendsUnlessTurned, AreNewClients, HaveSent};
+ghost use Rattle.example_log.specs.Quiet.{AreFresh, WritesInStep, IsQuiet};
 ghost use Rattle.example_log.specs.Written.{HasLines};
 
 use crate::clients::{Clients, SentAndStopped, clients_of, send_both};
 use crate::ending::{Written, ended};
 use crate::error::LogError;
 use crate::message::{Line, Message};
-use crate::writer::{Open, Writer};
+use crate::writer::Writer;
 use std::alloc::Global;
 use std::sync::Wait;
 use std::thread::{Threads, join};
-use wq_pool::{Caller, ValuePool, ValuePoolFault, ValueServed};
+use wq_pool::{Caller, NoGate};
+use wq_value_pool::{ValuePool, ValuePoolFault, ValueServed};
+use wq_value_worker::{ValueBook, ValueWorker, steps_go_on};
 use wq_words::Layout;
-use wq_worker::{ValueBook, ValueWorker};
+use wq_worker::nothing_is_asked;
 
 // So many lines of each log are written at a time, where some are left at the end.
 const LINES: u32 = 1024;
@@ -36,6 +39,7 @@ fn pool_of(
     requires idle { (¬ IsRunning access.worker.seen) × (¬ IsRunning errors.worker.seen) }
     requires open { (¬ IsShut access.worker.seen) × (¬ IsShut errors.worker.seen) }
     ensures workers { IfOk result (λ r. r.0.workers ≡ worker_id access.worker ∷ worker_id errors.worker ∷ []) }
+    ensures states { IfOk result (λ r. r.0.states ≡ access ∷ errors ∷ []) }
     ensures callers { IfOk result (λ r. All (IsCallerOf r.0.ready) r.1.items × (length r.1.items ≡ 5)) }
 {
     let Ok(queues) = Vec::from_array(alloc, [ValueServed::new(access), ValueServed::new(errors)])
@@ -66,6 +70,7 @@ fn new_logs(
         × (r.2.last.access.known.layout ≡ layout) × (r.2.last.errors.known.layout ≡ layout)) }
     ensures workers { IfOk result (λ r. All (IsCallerOf r.0.ready) r.1.items) }
     ensures clients { IfOk result (λ r. AreNewClients r.0.ready r.2) }
+    ensures fresh { IfOk result (λ r. AreFresh r.0.states) }
 {
     let (access, of_access) = ValueWorker::build(alloc, layout, Writer::new(alloc), 1)?;
     let (errors, of_errors) = ValueWorker::build(alloc, layout, Writer::new(alloc), 1)?;
@@ -91,7 +96,7 @@ fn serve<R: Threads + Wait + Sync>(
         rt,
         move ||
             requires { All (IsCallerOf pool.now.ready) workers.items }
-        { pool.run(rt, workers.as_mut_slice(), &Open) },
+        { pool.run(rt, workers.as_mut_slice(), &NoGate) },
         move ||
             requires { AreNewClients pool.now.ready clients }
             ensures { HaveSent clients first.items second.items result }
@@ -106,6 +111,8 @@ fn finish<R: Wait>(rt: &R, pool: ValuePool<Line, Writer>) -> Result<Vec<Finished
     ensures finished { IfOk result (λ all. AreFinishedBy (λ b. b.book) (λ work b. HasRunPairs (λ w. w.ran) b.brought work b.book)
         pool.workers all.items) }
     ensures count { IfOk result (λ all. length all.items ≡ length pool.workers) }
+    ensures begins { IfOk result (λ all. BeginAsHandedIn (λ w. w.worker) WritesInStep (λ b. b.book)
+        (λ w b. b.brought ≡ w.brought) pool.states all.items) }
 {
     let mut pool = pool;
     for _ in rt.forever() {
@@ -144,12 +151,16 @@ fn served<R: Threads + Wait + Sync>(
     second: Vec<Message>,
 ) -> Result<((Finished, Finished), SentAndStopped), LogError>
     requires two { length pool.workers ≡ 2 }
+    requires fresh { AreFresh pool.states }
     requires workers { All (IsCallerOf pool.ready) workers.items }
     requires clients { AreNewClients pool.ready clients }
     ensures finished { IfOk result (λ r. AreFinishedBy (λ b. b.book) (λ work b. HasRunPairs (λ w. w.ran) b.brought work b.book)
         pool.workers (r.0.0 ∷ r.0.1 ∷ [])) }
+    ensures quiet { IfOk result (λ r. IsQuiet r.0.0.1.book.seen × IsQuiet r.0.1.1.book.seen) }
     ensures sent { IfOk result (λ r. HaveSent clients first.items second.items r.1) }
 {
+    steps_go_on::<Line, Writer>();
+    nothing_is_asked::<ValueWorker<Line, Writer>>();
     let sent = serve(rt, &pool, workers, clients, first, second)?;
     let finished = finish(rt, pool)?;
     Ok((both_of(finished), sent))

@@ -1,9 +1,9 @@
 //! Clients, which send messages, and the stop items.
 ghost use Rattle.std.specs.Prelude.{◌≡◌, ◌<◌, ◌≤◌, ◌+◌, ◌++◌, [], ◌∷◌, Some, false, cond};
 ghost use Rattle.wq_pool.specs.Known.{IsSame, IsCallerOf};
-ghost use Rattle.wq_pool.specs.KnownWith.{BringsOrReturns, answer_of};
-ghost use Rattle.wq_live.specs.Answers.{Answers};
-ghost use Rattle.wq_pool.specs.OwnBrought.{queued_value};
+ghost use Rattle.wq_value_pool.specs.KnownWith.{BringsOrReturns, answer_of};
+ghost use Rattle.wq_values.specs.Answers.{Answers};
+ghost use Rattle.wq_value_pool.specs.OwnBrought.{queued_value};
 ghost use Rattle.example_log.specs.declared.message.Log.TheVariants.{Access, Errors};
 ghost use Rattle.example_log.specs.Sent.{own_lines, brings, IsNewClient, WasTurnedAway, IsTurnedAway, HasSent, StopsAlone};
 
@@ -11,8 +11,9 @@ use crate::message::{Line, Log, Message};
 use crate::writer::Writer;
 use std::sync::Wait;
 use std::thread;
-use wq_live::{Answer, ValueAnswer, ValueSender, queued_brings, queued_is_accepted};
-use wq_pool::{Caller, ValuePool};
+use wq_pool::Caller;
+use wq_value_pool::ValuePool;
+use wq_values::{Answer, ValueAnswer, ValueSender, queued_brings, queued_is_accepted};
 
 /// So many items of each log are a client's: as many of its lines wait at a time.
 pub(crate) const ITEMS: u32 = 4;

@@ -6,8 +6,7 @@ use crate::message::Line;
 use std::alloc::Global;
 use std::marker::Model;
 use value_trail::ValueTrail;
-use wq_pool::Gate;
-use wq_worker::{ValueFollow, ValueWork};
+use wq_value_worker::{ValueFollow, ValueWork};
 
 /// A work that writes each line behind those before it. Contracts alone see which lines it ran, and which came back to it.
 #[derive(Drop)]
@@ -73,13 +72,4 @@ impl ValueWork<Line> for Writer {
     fn returned(&mut self, item: u32, line: Line) {
         self.came_back = self.came_back.and(item, &line);
     }
-}
-
-// A gate that nobody watches.
-pub(crate) struct Open;
-
-impl Gate for Open {
-    fn before(&self, _queue: u32, _item: u32) {}
-
-    fn after(&self, _queue: u32, _item: u32) {}
 }

@@ -9,13 +9,13 @@ ghost use Rattle.wq_pool.specs.WorkerId.{worker_id};
 ghost use Rattle.example_pool.specs.Ended.{IsNewLine, HaveQueued, RanAll};
 
 use crate::queueing::{Line, Seat, Told, queue_all};
-use crate::work::{Open, Runs};
+use crate::work::Runs;
 use std::alloc::{AllocError, Global};
 use std::sync::Wait;
 use std::thread::{Threads, join};
 use thiserror::Error;
 use wq_live::Sender;
-use wq_pool::{Caller, Pool, PoolFault, Served};
+use wq_pool::{Caller, NoGate, Pool, PoolFault, Served};
 use wq_words::Layout;
 use wq_worker::{Book, Unbuilt, Worker};
 
@@ -140,7 +140,7 @@ fn serve<R: Threads + Wait + Sync>(
         rt,
         move ||
             requires { All (IsCallerOf pool.now.ready) workers.items }
-        { pool.run(rt, workers.as_mut_slice(), &Open) },
+        { pool.run(rt, workers.as_mut_slice(), &NoGate) },
         move ||
             requires { IsCallerOf pool.now.ready caller × IsNewLine pool.now.ready one × IsNewLine pool.now.ready two }
             ensures { HaveQueued one.first.sender.queue result.0.0 result.0.1 × HaveQueued two.first.sender.queue result.1.0 result.1.1 }

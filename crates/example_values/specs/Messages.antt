@@ -1,8 +1,8 @@
 -- The numbers of messages.
 use Rattle.std.specs.Prelude.{ℕ, List, [], ◌∷◌, filter_map, Option, Some, None, Box, box_value}
 use Rattle.std.specs.declared.alloc.Global.{Global}
-use Rattle.wq_live.specs.declared.value_answer.ValueAnswer.{ValueAnswer}
-use Rattle.wq_live.specs.declared.value_answer.ValueAnswer.TheVariants as answer
+use Rattle.wq_values.specs.ValueAnswer.{ValueAnswer}
+use Rattle.wq_values.specs.ValueAnswer.TheVariants as answer
 
 abbrev pub Message : Type 0
 Message = Box ℕ Global

@@ -8,9 +8,9 @@ use Rattle.wq_words.specs.Numbers.{stop_number}
 use Rattle.wq_words.specs.Seen.{own, owner_seat}
 use Rattle.wq_words.specs.Valued.{IsLegalWith, with_values}
 use Rattle.wq_words.specs.Headline.{KeepsHeadline}
-use Rattle.wq_live.specs.Known.{QueueId}
-use Rattle.wq_live.specs.Laws.{queued_number}
-use Rattle.wq_live.specs.OwnBrought.{own_brought}
+use Rattle.wq_values.specs.Known.{QueueId}
+use Rattle.wq_values.specs.Laws.{queued_number}
+use Rattle.wq_values.specs.OwnBrought.{own_brought}
 use Rattle.example_values.specs.Messages.{Message, numbers_of}
 use Rattle.example_values.specs.declared.queueing.Told.{Told}
 use Rattle.example_values.specs.declared.queueing.Stopped.{Stopped}

@@ -1,18 +1,18 @@
 //! The owner, which takes, executes, rests and parks until the stop item ran.
 ghost use Rattle.std.specs.Prelude.{◌≡◌, ◌≢◌, [], ◌∷◌, ◌++◌};
-ghost use Rattle.wq_live.specs.History.{accepted, begun, ended, IsRunning, IsClosed, IsShut};
-ghost use Rattle.wq_live.specs.Legal.{IsComplete};
-ghost use Rattle.wq_live.specs.Seen.{own};
-ghost use Rattle.wq_live.specs.Known.{IsSame};
-ghost use Rattle.wq_live.specs.Batch.{batch};
-ghost use Rattle.wq_live.specs.KnownWith.{handed_in};
+ghost use Rattle.wq_values.specs.History.{accepted, begun, ended, IsRunning, IsClosed, IsShut};
+ghost use Rattle.wq_values.specs.Legal.{IsComplete};
+ghost use Rattle.wq_values.specs.Seen.{own};
+ghost use Rattle.wq_values.specs.Known.{IsSame};
+ghost use Rattle.wq_values.specs.Batch.{batch};
+ghost use Rattle.wq_values.specs.KnownWith.{handed_in};
 ghost use Rattle.example_values.specs.Messages.{numbers_of};
 
 use crate::queueing::Message;
 use crossbeam_utils::sync::Parker;
 use std::sync::Wait;
 use trail::Trail;
-use wq_live::ValueOwner;
+use wq_values::ValueOwner;
 
 /// The owner, what the messages that it was handed came to, and their list, which contracts alone see.
 #[derive(Drop)]

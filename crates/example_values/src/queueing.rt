@@ -1,18 +1,18 @@
 //! A sender, which queues its items, each with a message, and wakes the owner where an answer says so.
 ghost use Rattle.std.specs.Prelude.{◌≡◌, ◌<◌, ◌≤◌, ◌++◌, [], box_value};
-ghost use Rattle.wq_live.specs.History.{accepted};
-ghost use Rattle.wq_live.specs.Seen.{own};
-ghost use Rattle.wq_live.specs.Numbers.{stop_number};
-ghost use Rattle.wq_live.specs.Known.{IsSame};
-ghost use Rattle.wq_live.specs.Laws.{queued_number};
-ghost use Rattle.wq_live.specs.OwnBrought.{own_brought};
+ghost use Rattle.wq_values.specs.History.{accepted};
+ghost use Rattle.wq_values.specs.Seen.{own};
+ghost use Rattle.wq_values.specs.Numbers.{stop_number};
+ghost use Rattle.wq_values.specs.Known.{IsSame};
+ghost use Rattle.wq_values.specs.Laws.{queued_number};
+ghost use Rattle.wq_values.specs.OwnBrought.{own_brought};
 ghost use Rattle.example_values.specs.Messages.{numbers_of, told_of};
 
 use crossbeam_utils::sync::Unparker;
 use std::alloc::Global;
 use std::sync::Wait;
 use trail::Trail;
-use wq_live::{Answer, ValueAnswer, ValueSender, queued_brings, queued_is_accepted};
+use wq_values::{Answer, ValueAnswer, ValueSender, queued_brings, queued_is_accepted};
 
 /// A message: a number in memory of its own.
 pub type Message = Box<u32>;

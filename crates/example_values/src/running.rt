@@ -1,13 +1,13 @@
 //! Two senders in threads of their own, and beside them the owner in its own.
 ghost use Rattle.std.specs.Prelude.{◌≡◌, ◌*◌, ◌<◌, ◌≤◌, [], IfOk};
-ghost use Rattle.wq_live.specs.History.{accepted, begun, ended};
-ghost use Rattle.wq_live.specs.Legal.{IsComplete};
-ghost use Rattle.wq_live.specs.Numbers.{stop_number};
-ghost use Rattle.wq_live.specs.Seen.{own};
-ghost use Rattle.wq_live.specs.Known.{IsSame, new_sender, new_owner};
-ghost use Rattle.wq_live.specs.Laws.{queued_number};
-ghost use Rattle.wq_live.specs.KnownWith.{knowing_nothing};
-ghost use Rattle.wq_live.specs.OwnBrought.{own_brought};
+ghost use Rattle.wq_values.specs.History.{accepted, begun, ended};
+ghost use Rattle.wq_values.specs.Legal.{IsComplete};
+ghost use Rattle.wq_values.specs.Numbers.{stop_number};
+ghost use Rattle.wq_values.specs.Seen.{own};
+ghost use Rattle.wq_values.specs.Known.{IsSame, new_sender, new_owner};
+ghost use Rattle.wq_values.specs.Laws.{queued_number};
+ghost use Rattle.wq_values.specs.KnownWith.{knowing_nothing};
+ghost use Rattle.wq_values.specs.OwnBrought.{own_brought};
 ghost use Rattle.example_values.specs.Met.{HasHandedOver};
 ghost use Rattle.example_values.specs.Messages.{numbers_of};
 
@@ -17,7 +17,7 @@ use crossbeam_utils::sync::{Parker, Unparker};
 use std::alloc::Global;
 use std::sync::Wait;
 use std::thread::{Threads, join};
-use wq_live::{BuildError, ValueOwner, ValueSender, build_values};
+use wq_values::{BuildError, ValueOwner, ValueSender, build_values};
 use wq_words::Layout;
 
 /// The senders of a new queue: two that queue messages, and one that stops the owner behind them.

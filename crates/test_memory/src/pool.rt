@@ -9,18 +9,9 @@ use std::slice;
 use std::sync::Wait;
 use std::thread::Threads;
 use wq_live::{Answer, Sender};
-use wq_pool::{Caller, Gate, Pool, PoolError, PoolFault, Served};
+use wq_pool::{Caller, NoGate, Pool, PoolError, PoolFault, Served};
 use wq_words::Layout;
 use wq_worker::{Book, Worker};
-
-/// Nothing is done around an execution.
-struct Open;
-
-impl Gate for Open {
-    fn before(&self, _queue: u32, _item: u32) {}
-
-    fn after(&self, _queue: u32, _item: u32) {}
-}
 
 /// A queue on which an item and the stop item stand, and its sender. None where memory was wanting.
 fn queue(alloc: Global, layout: Layout) -> Option<(Served<Counter>, Sender)> {
@@ -96,7 +87,7 @@ fn is_served<T: Threads + Wait + Sync>(rt: &T, pool: &Pool<Counter>, caller: &mu
 {
     let first = pool.announce(rt, caller, 0);
     let second = pool.announce(rt, caller, 1);
-    first.is_ok() && second.is_ok() && pool.run(rt, slice::from_mut(caller), &Open).is_ok()
+    first.is_ok() && second.is_ok() && pool.run(rt, slice::from_mut(caller), &NoGate).is_ok()
 }
 
 /// Serves a pool of two queues by its one caller, and takes it apart.

@@ -4,9 +4,10 @@ ghost use Rattle.std.specs.Prelude.{◌≡◌, []};
 use crate::calls::{Said, right};
 use std::alloc::Global;
 use value_trail::ValueTrail;
-use wq_live::ValueSender;
+use wq_value_worker::{ValueFollow, ValueWork, ValueWorker};
+use wq_values::ValueSender;
 use wq_words::Layout;
-use wq_worker::{Unbuilt, ValueFollow, ValueWork, ValueWorker};
+use wq_worker::Unbuilt;
 
 /// What an item brings.
 const VALUE: u64 = 1 << 40;

@@ -1,7 +1,8 @@
 //! A queue whose items bring values.
 use crate::calls::{Said, right};
 use std::alloc::Global;
-use wq_live::{BuildError, ValueAnswer, ValueOwner, ValueSender, build_values};
+use wq_live::BuildError;
+use wq_values::{ValueAnswer, ValueOwner, ValueSender, build_values};
 use wq_words::Layout;
 
 /// What an item brings.
@@ -16,7 +17,7 @@ fn queue_first(sender: &mut ValueSender<u64>) -> bool {
 }
 
 /// Takes what was queued by then, and begins the first of it.
-#[tactic(auto, using(wq_live::proofs::Reading::reading))]
+#[tactic(auto, using(wq_calls::proofs::Reading::reading))]
 fn begin_first(owner: &mut ValueOwner<u64>) -> Option<(u32, Option<u64>)> {
     if owner.is_closed() || owner.is_draining() || owner.running().is_some() {
         return None;

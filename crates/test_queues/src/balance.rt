@@ -2,8 +2,10 @@
 ghost use Rattle.std.specs.Prelude.{◌≡◌};
 ghost use Rattle.wq_ledger.specs.Book.{IsLedgerOf};
 
-use wq_live::{Sender, ValueSender};
-use wq_worker::{Book, Ledger, Totals, Unbalanced, ValueBook};
+use wq_live::Sender;
+use wq_value_worker::ValueBook;
+use wq_values::ValueSender;
+use wq_worker::{Book, Ledger, Totals, Unbalanced};
 
 fn balance_pair(book: &Book, one: Ledger, other: Ledger) -> Result<Totals, Unbalanced>
     requires { IsLedgerOf book.now.seen one × IsLedgerOf book.now.seen other }

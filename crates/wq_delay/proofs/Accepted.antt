@@ -3,8 +3,8 @@ use Rattle.wq_words.specs.Armed.{armed_of, modified_of_posted}
 use Rattle.wq_words.specs.History.{accepted}
 use Rattle.wq_words.specs.Seen.{own}
 use Rattle.wq_words.proofs.Appended.{accepted-append}
-use Rattle.wq_live.proofs.Growing.{grows_own}
-use Rattle.wq_live.proofs.Resting.{accepted_still}
+use Rattle.wq_calls.proofs.Growing.{grows_own}
+use Rattle.wq_calls.proofs.Resting.{accepted_still}
 use Rattle.wq_live.specs.Answers.{Answers}
 use Rattle.wq_delay.proofs.Common.{◌≡◌, ◌≢◌, ℕ, ◌<◌, Bool, List, [], ◌∷◌, ◌++◌, refl, ap, ◌∙◌, subst, arith, Event, Hold, Busy, Push, Back, Entry, Known, Sees}
 use Rattle.wq_delay.proofs.Common.{DelayState, GivesAllBack}

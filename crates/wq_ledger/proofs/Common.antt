@@ -11,7 +11,7 @@ pub use Rattle.wq_words.specs.Legal.{IsLegal, IsComplete, IsAllowed}
 pub use Rattle.wq_words.specs.Counting.{capped, is_queued_by, is_chain, is_chain_busy}
 pub use Rattle.wq_words.specs.Seen.{Grows, owner_seat}
 pub use Rattle.wq_words.proofs.Appended.{accepted-count, count_by-append, count_by-cons}
-pub use Rattle.wq_live.specs.declared.counts.SenderCounts.{SenderCounts}
+pub use Rattle.wq_calls.specs.declared.counts.SenderCounts.{SenderCounts}
 pub use Rattle.wq_live.specs.Counts.{owner_counts, sender_counts}
 pub use Rattle.wq_ledger.specs.declared.totals.Totals.{Totals}
 pub use Rattle.wq_ledger.specs.Book.{LedgerState, IsLedgerOf, IsSettled, BookState, book_of}

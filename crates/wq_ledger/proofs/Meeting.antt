@@ -1,18 +1,12 @@
 -- What stays of a queue that is closed, and of a book, as more is seen.
 use Rattle.std.proofs.lemmas.List.{append-nil}
 use mathlib.Core.List.{IsPrefix}
-use Rattle.wq_words.proofs.Appended.{accepted-append}
-use Rattle.wq_words.proofs.Prefixes.{nothing_more, prefix_append}
-use Rattle.wq_words.proofs.Seen.{own-append}
-use Rattle.wq_words.specs.Seen.{own}
-use Rattle.wq_live.specs.Laws.{IsStillEnd}
-use Rattle.wq_live.specs.OwnBrought.{own_brought}
-use Rattle.wq_live.proofs.OwnBrought.{own_still}
+use Rattle.wq_words.proofs.Prefixes.{prefix_append}
 use Rattle.wq_words.specs.History.{accepted, begun}
 use Rattle.wq_words.proofs.Closed.{closed_shuts}
 use Rattle.wq_live.specs.Known.{Known, Sees}
-use Rattle.wq_live.proofs.Final.{final, all_run}
-use Rattle.wq_ledger.proofs.Common.{◌≡◌, ℕ, List, [], ◌++◌, length, Option, refl, sym, ap, ◌∙◌, subst, arith}
+use Rattle.wq_calls.proofs.Final.{final, all_run}
+use Rattle.wq_ledger.proofs.Common.{◌≡◌, ℕ, List, [], ◌++◌, sym, ap, ◌∙◌, subst, arith}
 use Rattle.wq_ledger.proofs.Common.{Layout, Event, ended, is_close, IsClosed, IsLegal, IsComplete, Grows}
 use Rattle.wq_ledger.proofs.Common.{count_by-append, sender_counts, LedgerState, IsLedgerOf, IsSettled}
 
@@ -64,14 +58,3 @@ settled_still owner new own sees settled = record {
 pub settled_run : (owner : Known) (own : LedgerState) → IsSettled owner own
     → (ended owner.seen ≡ begun owner.seen) × (begun owner.seen ≡ accepted owner.seen)
 settled_run owner own settled = all_run owner.layout owner.seen settled.legal (closed_shuts owner.seen settled.complete.0, settled.complete.1)
-
--- where nothing more was accepted of a seat, its queueings brought what they had brought
-pub brought_still : {V : Type 0} (s c n : ℕ) (v w : List Event) (bs cs : List (Option V)) → Grows c [] n v w → IsStillEnd v w → IsPrefix bs cs
-    → length bs ≡ length (accepted v) → own_brought s w cs ≡ own_brought s v bs
-brought_still s c n v w bs cs g still front many =
-    own_still s (own s g.new) 0 v w bs cs none (record { new = g.new; is = g.is; mine = refl; theirs = omega arith }) front many
-  where
-    none : accepted (own s g.new) ≡ []
-    none = nothing_more (accepted (own s v)) (accepted (own s g.new))
-        (sym (accepted-append (own s v) (own s g.new)) ∙ (ap accepted (sym (own-append s v g.new)) ∙
-        (ap (λ (h : List Event). accepted (own s h)) (sym g.is) ∙ still.of_each s)))

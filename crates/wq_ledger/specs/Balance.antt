@@ -2,8 +2,8 @@
 use Rattle.std.specs.Prelude.{◌≡◌, ◌≢◌, ℕ, ◌+◌, ◌-◌, ◌*◌, ◌^◌, ◌<◌, ◌≤◌, ◌==◌, ◌&&◌, not, if◌then◌else◌, List, [], ◌∷◌, length, filter, count_by, sum_by}
 use Rattle.std.specs.Prelude.{nat_lt}
 use Rattle.wq_words.specs.History.{is_push, ended}
-use Rattle.wq_live.specs.declared.counts.SenderCounts.{SenderCounts}
-use Rattle.wq_live.specs.declared.counts.OwnerCounts.{OwnerCounts}
+use Rattle.wq_calls.specs.declared.counts.SenderCounts.{SenderCounts}
+use Rattle.wq_calls.specs.declared.counts.OwnerCounts.{OwnerCounts}
 use Rattle.wq_words.specs.Counting.{is_chain, is_chain_busy}
 use Rattle.wq_live.specs.Counts.{owner_counts}
 use Rattle.wq_ledger.specs.declared.totals.Totals.{Totals}

@@ -8,7 +8,7 @@ use Rattle.wq_words.specs.History.{IsClosed}
 use Rattle.wq_words.specs.Legal.{IsLegal, IsComplete}
 use Rattle.wq_live.specs.Known.{Known}
 use Rattle.wq_live.specs.Counts.{sender_counts}
-use Rattle.wq_live.specs.declared.counts.SenderCounts.{SenderCounts}
+use Rattle.wq_calls.specs.declared.counts.SenderCounts.{SenderCounts}
 
 -- a sender's number, and what it had counted as it met the book
 pub record LedgerState : Type 0 where

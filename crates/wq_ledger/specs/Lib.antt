@@ -1,4 +1,3 @@
 pub mod Totals
 pub mod Book
-pub mod ValueBook
 pub mod Balance

@@ -1,8 +1,8 @@
 -- What seats have counted, summed.
 use Rattle.std.specs.Prelude.{ℕ, ◌+◌, ◌^◌, ◌<◌, List}
 use Rattle.wq_words.specs.declared.event.Event.{Event}
-use Rattle.wq_live.specs.declared.counts.SenderCounts.{SenderCounts}
-use Rattle.wq_live.specs.declared.counts.OwnerCounts.{OwnerCounts}
+use Rattle.wq_calls.specs.declared.counts.SenderCounts.{SenderCounts}
+use Rattle.wq_calls.specs.declared.counts.OwnerCounts.{OwnerCounts}
 use Rattle.wq_live.specs.Counts.{sender_counts, owner_counts}
 use Rattle.wq_ledger.specs.declared.totals.Totals.{Totals}
 

@@ -86,7 +86,7 @@ fn sum_met(ledgers: &[Ledger], seat: u32, senders: u32) -> Result<Totals, Unbala
 }
 
 /// The sums of all counts of a book whose worker has this sender and this owner, by the ledgers of its other senders.
-pub(crate) fn sum_all(
+pub fn sum_all(
     own: Ledger,
     owner: OwnerCounts,
     senders: u32,

@@ -15,7 +15,7 @@ use crate::totals::Totals;
 use std::marker::Model;
 use wq_live::{Owner, Sender, SenderCounts};
 
-/// What one sender has counted. A book alone makes it: its own sender's when it is made, each other's by a meeting.
+/// What one sender has counted. A book makes it: its own sender's when it is made, each other's by a meeting.
 #[derive(Clone, Copy, Debug, PartialEq, Eq)]
 pub struct Ledger {
     number: u32,
@@ -33,7 +33,9 @@ impl Model for Ledger {
 }
 
 impl Ledger {
-    pub(crate) fn of(number: u32, counts: SenderCounts) -> Ledger
+    /// A sender's number with what it has counted. Who makes one by this call has to show to `balance` that it is of a sender
+    /// that has met the book; those that `meet` gives are.
+    pub fn of(number: u32, counts: SenderCounts) -> Ledger
         ensures number { result.number ≡ number }
         ensures counts { result.counts ≡ counts }
     {

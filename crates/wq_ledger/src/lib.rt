@@ -4,9 +4,7 @@
 mod balance;
 mod book;
 mod totals;
-mod value_book;
 
-pub use balance::Unbalanced;
+pub use balance::{Unbalanced, sum_all};
 pub use book::{Book, Ledger};
 pub use totals::Totals;
-pub use value_book::ValueBook;

@@ -2,9 +2,9 @@
 use Rattle.wq_live.proofs.Common.{◌≡◌, ℕ, ◌∙◌, ValueStanding, Learns, Bare, OwnerSeat, Sent, IsSame, owning, owner_view, sending_in, Sends, OwnsSeat}
 use Rattle.wq_live.proofs.Common.{AreSeated}
 use Rattle.wq_live.specs.declared.pair.Pair.TheInside.{Inside}
-use Rattle.wq_live.specs.Pairs.{IsPair}
-use Rattle.wq_live.proofs.ValueSeats.{learns_slots}
-use Rattle.wq_live.proofs.Paired.{owner_acts, sender_acts}
+use Rattle.wq_live.specs.Pair.{IsPair}
+use Rattle.wq_calls.proofs.ValueSeats.{learns_slots}
+use Rattle.wq_calls.proofs.InOneSeat.{owner_acts, sender_acts}
 
 module _ (s : Inside) (pair : IsPair s) where
   pub pair_after : (at : ℕ) (t : Inside) → Learns at s.seat.chair t.seat.chair → AreSeated t.seat t.sent → IsPair t

@@ -7,19 +7,17 @@ ghost use Rattle.wq_words.specs.History.{IsClosed, IsShut, IsDraining, closed, I
 ghost use Rattle.wq_words.specs.Legal.{IsLegal, IsComplete, HasRunOut};
 ghost use Rattle.wq_words.specs.Headline.{KeepsHeadline};
 ghost use Rattle.wq_words.specs.Seen.{owner_seat, own};
-ghost use Rattle.wq_live.specs.Known.{IsSame, Sees};
-ghost use Rattle.wq_live.specs.Answers.{Chains, IsFinal};
-ghost use Rattle.wq_live.specs.Batch.{batch, next_of, TakesAll};
-ghost use Rattle.wq_live.specs.Rest.{Rests, HasRested, MayNotRest};
+ghost use Rattle.wq_calls.specs.Known.{IsSame, Sees};
+ghost use Rattle.wq_calls.specs.Answers.{Chains, IsFinal};
+ghost use Rattle.wq_calls.specs.Batch.{batch, next_of, TakesAll};
+ghost use Rattle.wq_calls.specs.Rest.{Rests, HasRested, MayNotRest};
 ghost use Rattle.wq_words.specs.Counting.{capped};
-ghost use Rattle.wq_live.specs.Counts.{owner_counts};
-ghost use Rattle.wq_live.specs.Laws.{queued_number};
+ghost use Rattle.wq_calls.specs.Counts.{owner_counts};
+ghost use Rattle.wq_calls.specs.Laws.{queued_number};
 
-use crate::answer::Done;
 use crate::bare::Bare;
-use crate::counts::OwnerCounts;
-use crate::owner_seat::OwnerSeat;
 use std::marker::Model;
+use wq_calls::{Done, OwnerCounts, OwnerSeat};
 use wq_words::{Answer, Layout};
 
 /// The owner of a queue, who takes what was pushed and executes it, one number at a time, in the order of the pushes. It
@@ -30,11 +28,11 @@ pub struct Owner {
 }
 
 impl Model for Owner {
-    ghost use Rattle.wq_live.specs.Known.{Known};
+    ghost use Rattle.wq_calls.specs.Known.{Known};
 
     ghost Value = { Known };
 
-    ghost use Rattle.wq_live.specs.Sits.{owning, owner_view};
+    ghost use Rattle.wq_calls.specs.Sits.{owning, owner_view};
     ghost use Rattle.wq_live.specs.Alone.{OwnsAlone};
 
     ghost view = { λ s. owner_view (owning s.seat) };

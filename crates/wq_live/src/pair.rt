@@ -8,22 +8,19 @@ ghost use Rattle.wq_words.specs.History.{IsClosed, IsShut, IsDraining, closed, I
 ghost use Rattle.wq_words.specs.Legal.{IsLegal, HasRunOut};
 ghost use Rattle.wq_words.specs.Headline.{KeepsHeadline};
 ghost use Rattle.wq_words.specs.Seen.{owner_seat, own};
-ghost use Rattle.wq_live.specs.Known.{Sees};
-ghost use Rattle.wq_live.specs.Answers.{Answers, Chains, IsContended};
-ghost use Rattle.wq_live.specs.Batch.{batch, next_of, TakesAll};
-ghost use Rattle.wq_live.specs.Counts.{owner_counts, sender_counts};
-ghost use Rattle.wq_live.specs.Rest.{Rests, HasRested, MayNotRest};
-ghost use Rattle.wq_live.specs.Laws.{queued_number, IsStillOwned};
-ghost use Rattle.wq_live.specs.Pairs.{pair_owner, pair_sender};
+ghost use Rattle.wq_calls.specs.Known.{Sees};
+ghost use Rattle.wq_calls.specs.Answers.{Answers, Chains, IsContended};
+ghost use Rattle.wq_calls.specs.Batch.{batch, next_of, TakesAll};
+ghost use Rattle.wq_calls.specs.Counts.{owner_counts, sender_counts};
+ghost use Rattle.wq_calls.specs.Rest.{Rests, HasRested, MayNotRest};
+ghost use Rattle.wq_calls.specs.Laws.{queued_number, IsStillOwned};
+ghost use Rattle.wq_calls.specs.Pairs.{pair_owner, pair_sender};
 
 use crate::bare::Bare;
-use crate::counts::{OwnerCounts, SenderCounts};
 use crate::owner::Owner;
-use crate::owner_seat::OwnerSeat;
 use crate::sender::Sender;
-use crate::sent::{Sent, queue_number};
-use crate::spins::Spins;
 use std::marker::Model;
+use wq_calls::{OwnerCounts, OwnerSeat, SenderCounts, Sent, Spins, queue_number};
 use wq_table::Second;
 use wq_words::{Answer, Layout};
 
@@ -36,11 +33,11 @@ pub struct Pair {
 }
 
 impl Model for Pair {
-    ghost use Rattle.wq_live.specs.Pairs.{KnownPair};
+    ghost use Rattle.wq_calls.specs.Pairs.{KnownPair};
 
     ghost Value = { KnownPair };
 
-    ghost use Rattle.wq_live.specs.Pairs.{pair_view, IsPair};
+    ghost use Rattle.wq_live.specs.Pair.{pair_view, IsPair};
 
     ghost view = { pair_view };
 

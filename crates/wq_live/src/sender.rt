@@ -10,19 +10,19 @@ ghost use Rattle.wq_words.specs.Headline.{KeepsHeadline};
 ghost use Rattle.wq_words.specs.Seen.{owner_seat, own};
 ghost use Rattle.wq_words.specs.declared.answer.Answer.TheVariants.{Queued, Contended};
 ghost use Rattle.wq_words.specs.declared.answer.Posted.TheVariants as posted;
-ghost use Rattle.wq_live.specs.Known.{IsSame, Sees};
-ghost use Rattle.wq_live.specs.Answers.{TestsAndSets, Answers, Posts, IsContended, HasFlushed};
-ghost use Rattle.wq_live.specs.Counts.{sender_counts};
-ghost use Rattle.wq_live.specs.Laws.{IsStillEnd, IsStillOwned};
+ghost use Rattle.wq_calls.specs.Known.{IsSame, Sees};
+ghost use Rattle.wq_calls.specs.Answers.{TestsAndSets, Answers, Posts, IsContended, HasFlushed};
+ghost use Rattle.wq_calls.specs.Counts.{sender_counts};
+ghost use Rattle.wq_calls.specs.Laws.{IsStillEnd, IsStillOwned};
 
 use crate::bare::Bare;
-use crate::counts::SenderCounts;
 use crate::owner::Owner;
-use crate::sent::{Sent, find_closed, hold_number, queue_number, queue_waiting, try_tries};
-use crate::spins::Spins;
 use crossbeam_utils::Backoff;
 use std::marker::Model;
 use std::sync::Wait;
+use wq_calls::{
+    SenderCounts, Sent, Spins, find_closed, hold_number, queue_number, queue_waiting, try_tries,
+};
 use wq_table::{Chair, First};
 use wq_words::{Answer, Layout, Posted};
 
@@ -38,11 +38,11 @@ pub struct Sender {
 }
 
 impl Model for Sender {
-    ghost use Rattle.wq_live.specs.Known.{Known};
+    ghost use Rattle.wq_calls.specs.Known.{Known};
 
     ghost Value = { Known };
 
-    ghost use Rattle.wq_live.specs.Sits.{sender_view, sending_in};
+    ghost use Rattle.wq_calls.specs.Sits.{sender_view, sending_in};
     ghost use Rattle.wq_live.specs.Alone.{SendsAlone};
 
     ghost view = { λ s. sender_view (sending_in 0 s.chair s.sent) };

@@ -2,7 +2,7 @@
 use Rattle.wq_plan.proofs.Common.{◌≡◌, ℕ, suc, ◌+◌, ◌*◌, List, [], ◌∷◌, length, refl, sym, ap, ◌∙◌, arith, All, sum_by, sum_by-cons, append-nil, owner_seat}
 use Rattle.wq_plan.proofs.Common.{Grows, Known, Sees, sender_counts, LedgerState, BookState, HasHeard, ledger_of, grows_same, prefix_on}
 use Rattle.wq_plan.proofs.Common.{IsPrefix, Event, IsTold}
-use Rattle.wq_live.proofs.Counting.{counts_none}
+use Rattle.wq_calls.proofs.Counting.{counts_none}
 
 pub heard_still : (b : BookState) → HasHeard b b
 heard_still b = record { queue_is = refl; layout_is = refl; own_is = refl; begins = ([], append-nil b.seen); untouched = refl }

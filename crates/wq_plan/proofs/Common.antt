@@ -29,7 +29,7 @@ pub use Rattle.wq_words.proofs.Seen.{own_none, running_same}
 pub use Rattle.wq_live.specs.Counts.{sender_counts, owner_counts}
 pub use Rattle.wq_live.specs.Known.{Known, Sees, QueueId, new_owner, new_sender, new_senders}
 pub use Rattle.wq_live.specs.declared.sender.Sender.{Sender}
-pub use Rattle.wq_live.proofs.Seated.{made_nothing, two_less, length-new_senders, get_or-new_senders}
+pub use Rattle.wq_calls.proofs.Seated.{made_nothing, two_less, length-new_senders, get_or-new_senders}
 pub use Rattle.wq_ledger.specs.Balance.{largest, AreWhole, AreOwnerWhole, ledgers_of, HasOne, IsFault, IsUnbalanced, of_sender, of_worker}
 pub use Rattle.wq_ledger.specs.Book.{LedgerState, BookState, IsLedgerOf}
 pub use Rattle.wq_ledger.specs.declared.balance.Unbalanced.{Unbalanced}

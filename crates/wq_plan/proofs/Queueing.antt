@@ -8,8 +8,8 @@ use Rattle.wq_words.specs.declared.answer.Answer.TheVariants as answer
 use Rattle.wq_words.specs.declared.event.Why.TheVariants as why
 use Rattle.wq_live.specs.Answers.{Answers}
 use Rattle.wq_live.specs.Known.{IsSame}
-use Rattle.wq_live.proofs.Growing.{grows_on}
-use Rattle.wq_live.proofs.Sends.{same_none, same_on}
+use Rattle.wq_calls.proofs.Growing.{grows_on}
+use Rattle.wq_calls.proofs.Sends.{same_none, same_on}
 use Rattle.wq_words.proofs.Seen.{grows_none as grows_still}
 
 one_queued : (k n : ℕ) (es : List Event) (old new : Known) → SendsOne old.number k es → Sees es n old new → HasQueued (k ∷ []) old new

@@ -20,7 +20,7 @@ FirstLeft (Some first) q more new = new ≡ Some first
 FirstLeft None q zero new = new ≡ None
 FirstLeft None q (suc more) new = new ≡ Some (q, suc more)
 
--- `state` says what a worker is without values, `deals` what one step does with the pairs that the work asks for
+-- `state` says what a worker is without values, `deals` what one step does
 module _ {K W : Type 0} (state : K → WorkerState W) (deals : K → K → Type 0) where
   -- the first queues of these slots, in hand
   pub record AreFirst (slots : SlotsState K) (turns : List (TurnState K)) : Type 0 where

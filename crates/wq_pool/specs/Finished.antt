@@ -43,7 +43,7 @@ module _ {K W B : Type 0} (state : K → WorkerState W) (book : B → BookState)
   AreTakenApart turns all = (q : ℕ) (parts : W × B) → slice_get all q ≡ Some parts
       → (t : TurnState K) × (slice_get turns q ≡ Some t) × ArePartsOf t.worker parts
 
--- `deals` says what one step does with the pairs that the work asks for
+-- `deals` says what one step does
 module _ {K W B : Type 0} (state : K → WorkerState W) (deals : K → K → Type 0) (book : B → BookState) (has_brought : K → B → Type 0) where
   -- The history of the book begins with what the worker had seen; step by step that became one whose work and book these are.
   pub record EndsFrom (old : K) (parts : W × B) : Type 0 where

@@ -51,7 +51,7 @@ module _ {K W : Type 0} (state : K → WorkerState W) where
     pub worker_is : turn_id u ≡ turn_id t
     pub begins : IsPrefix (seen_by t.worker) (seen_by u.worker)
 
--- `deals` says what one step does with the pairs that the work asks for
+-- `deals` says what one step does
 module _ {K W : Type 0} (state : K → WorkerState W) (deals : K → K → Type 0) where
   -- It goes on from what stands at the place q: it has seen at least what that had seen, and became what it is step by step.
   pub record GoesOnAt (states : List K) (q : ℕ) (w : K) : Type 0 where

@@ -14,8 +14,3 @@ pub use Rattle.wq_words.specs.Seen
 pub use Rattle.wq_worker.specs.State
 pub use Rattle.wq_turn.specs.WorkerId
 pub use Rattle.wq_live.specs.Laws
-pub use Rattle.wq_live.specs.KnownWith
-pub use Rattle.wq_live.specs.OwnBrought
-pub use Rattle.wq_words.specs.Valued
-pub use Rattle.wq_worker.specs.ValueState
-pub use Rattle.wq_worker.specs.Returned

@@ -13,7 +13,7 @@ abbrev pub IsNoPool : ℕ → Type 0
 IsNoPool count = (count ≡ 0) ⊎ (256 < count)
 
 -- The very queue of its number, in hand: its worker goes on from what it was when it was handed in. `state` says what a worker is
--- without values, `deals` what one step does with the pairs that the work asks for.
+-- without values, `deals` what one step does.
 pub record IsTurnOf {K W : Type 0} (state : K → WorkerState W) (deals : K → K → Type 0) (pool : PoolState K) (turn : TurnState K) : Type 0 where
   pub slots_is : turn.slots ≡ pool.slots
   pub worker_is : IsWorkerAt state pool.workers turn.queue turn.worker

@@ -35,7 +35,7 @@ module _ {K W : Type 0} (state : K → WorkerState W) where
   abbrev pub handed_of : List K → HandedIn K
   handed_of ws = record { workers = map (id_of state) ws; states = ws }
 
--- `deals` says what one step does with the pairs that the work asks for
+-- `deals` says what one step does
 module _ {K W : Type 0} (state : K → WorkerState W) (deals : K → K → Type 0) where
   -- it is the worker that was handed in at the place q, and goes on from what it was then
   pub record IsHandedAt (handed : HandedIn K) (q : ℕ) (w : K) : Type 0 where

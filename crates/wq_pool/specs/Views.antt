@@ -29,7 +29,7 @@ module _ {K W : Type 0} (state : K → WorkerState W) where
     pub slots_count : s.table.shared.table_id.slots ≡ s.count
     pub count_is : length (map (id_of state) s.table.shared.key.value.items) ≡ s.count
 
--- `deals` says what one step does with the pairs that the work asks for
+-- `deals` says what one step does
 module _ {K W : Type 0} (state : K → WorkerState W) (deals : K → K → Type 0) where
   -- the seat has taken the slot of this queue alone, and the worker is the one that was handed in there
   pub record IsInHand (id : TableId) (seat : SlotSat K) (q : ℕ) (w : K) : Type 0 where

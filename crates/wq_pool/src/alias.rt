@@ -2,7 +2,7 @@
 use crate::finish::PoolFaultOf;
 use crate::pool::PoolOf;
 use crate::turn::{TurnOf, WorkedOf};
-use wq_worker::{ValueWorker, Worker};
+use wq_worker::Worker;
 
 /// A pool of plain workers.
 pub type Pool<W> = PoolOf<Worker<W>>;
@@ -15,15 +15,3 @@ pub type Worked<W> = WorkedOf<Worker<W>>;
 
 /// A pool of plain workers that could not be taken apart.
 pub type PoolFault<W> = PoolFaultOf<Worker<W>>;
-
-/// A pool of workers whose items bring values.
-pub type ValuePool<V, W> = PoolOf<ValueWorker<V, W>>;
-
-/// The queue in hand of a worker whose items bring values.
-pub type ValueTurn<V, W> = TurnOf<ValueWorker<V, W>>;
-
-/// The same, that was worked at.
-pub type ValueWorked<V, W> = WorkedOf<ValueWorker<V, W>>;
-
-/// A pool of workers whose items bring values that could not be taken apart.
-pub type ValuePoolFault<V, W> = PoolFaultOf<ValueWorker<V, W>>;

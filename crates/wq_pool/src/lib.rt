@@ -3,16 +3,14 @@
 
 mod alias;
 mod finish;
-mod laws;
 mod pool;
 mod run;
 mod slots;
 mod turn;
 
-pub use alias::{Pool, PoolFault, Turn, ValuePool, ValuePoolFault, ValueTurn, ValueWorked, Worked};
+pub use alias::{Pool, PoolFault, Turn, Worked};
 pub use finish::PoolFaultOf;
-pub use laws::brought_goes_on;
 pub use pool::{PoolError, PoolOf};
 pub use turn::{TurnOf, WorkedOf};
 pub use wq_ready::{AnnounceError, Caller};
-pub use wq_turn::{Gate, Served, ServedOf, ValueServed};
+pub use wq_turn::{Gate, NoGate, Served, ServedOf};

@@ -11,7 +11,7 @@ use Rattle.wq_pool_plan.proofs.Common.{◌≢◌, [], ◌∷◌, map, inl, inr, 
 use Rattle.wq_pool_plan.proofs.Common.{whole_counts, AreNumbered, one_ledger, last_ledger, no_fault}
 use Rattle.wq_pool_plan.proofs.Common.{items_at, IsOfStop, all_front, all_ended, WorkerId, IsFinished, IsSent, is_push, accepted, ended, count_by-le-length}
 use Rattle.wq_words.specs.Limits.{most_text_items}
-use Rattle.wq_live.proofs.Final.{final as stays_final}
+use Rattle.wq_calls.proofs.Final.{final as stays_final}
 use Rattle.wq_ledger.specs.declared.book.Ledger.{Ledger}
 use Rattle.wq_ledger.specs.declared.balance.Unbalanced.TheVariants.{Saturated}
 use Rattle.wq_ledger.specs.declared.totals.Totals.{Totals}

@@ -16,16 +16,7 @@ use std::sync::Wait;
 use std::thread::{JoinHandle, Promise, PromisedHandle, Scope, Threads, scope, scope_env};
 use wq_live::Sender;
 use wq_plan::{Idle, Outcome, Plan, RaceError, join_wanted, keep_handle, run_plan};
-use wq_pool::{Caller, Gate, Pool, PoolError, Served};
-
-/// Nothing is done around an execution.
-struct Still;
-
-impl Gate for Still {
-    fn before(&self, _queue: u32, _item: u32) {}
-
-    fn after(&self, _queue: u32, _item: u32) {}
-}
+use wq_pool::{Caller, NoGate, Pool, PoolError, Served};
 
 /// A thread gives back the group that it was given, whose senders have each queued their own items: so many.
 #[derive(Drop)]
@@ -99,7 +90,7 @@ fn start_workers<'s, E, R: Threads + Wait + Sync>(
             move ||
                 requires { All (IsCallerOf pool.now.ready) workers.items }
             {
-                let _ = pool.run(rt, &mut workers, &Still);
+                let _ = pool.run(rt, &mut workers, &NoGate);
             },
         )
         .ok()

@@ -35,7 +35,7 @@ pub use Rattle.wq_words.proofs.Seen.{own-append, own_rest, closed_count, own_one
 pub use Rattle.wq_live.specs.Answers.{Answers, IsPushed, HasMetDrain}
 pub use Rattle.wq_live.specs.Batch.{TakesAll, batch, next_of}
 pub use Rattle.wq_live.specs.Known.{Known, Sees, QueueId, new_sender, new_owner, new_senders}
-pub use Rattle.wq_live.proofs.Seated.{length-new_senders, get_or-new_senders, made_nothing, one_less, two_less}
+pub use Rattle.wq_calls.proofs.Seated.{length-new_senders, get_or-new_senders, made_nothing, one_less, two_less}
 pub use Rattle.wq_worker.specs.Follow.{Queues, Follows, passed, pushed, busy, chained, chain_busy}
 pub use Rattle.wq_worker.specs.Seats.{Adds, taking, taking_of, NothingWaits, at_take, at_all}
 pub use Rattle.wq_worker.specs.State.{WorkerState, Moves}

@@ -3,7 +3,7 @@ use Rattle.wq_script.proofs.Common.{◌≡◌, ℕ, ◌<◌, List, [], length, g
 use Rattle.wq_script.proofs.Common.{get_or_default, length-set, cases_eq, IsPrefix, Event, owner_seat, own, prefix_self, prefix_on, Known, Sees, WorkerState}
 use Rattle.wq_script.proofs.Common.{Moves, DelayState, KeepsTable, StaysSilent, Hears, AllHear, IsSameTable, worker_sender, worker_owner}
 use Rattle.wq_words.proofs.Seen.{none_of, grows_begins, grows_same, own_more}
-use Rattle.wq_live.proofs.Sends.{same_none, same_on}
+use Rattle.wq_calls.proofs.Sends.{same_none, same_on}
 
 pub stays_refl : (k : Known) → StaysSilent k k
 stays_refl k = record { same = same_none k; begins = prefix_self k.seen; mine = refl }

@@ -11,7 +11,7 @@ use Rattle.wq_words.proofs.Seen.{count_same}
 use Rattle.wq_words.proofs.Counting.{queued_own}
 use Rattle.wq_words.proofs.Appended.{accepted-count, count_by-append, count_by-cons}
 use Rattle.wq_live.specs.Counts.{sender_counts, owner_counts}
-use Rattle.wq_live.proofs.Final.{final}
+use Rattle.wq_calls.proofs.Final.{final}
 use Rattle.wq_ledger.specs.Balance.{AreOwnerWhole, largest}
 use Rattle.wq_ledger.proofs.Pushes.{is_queued_below, below_more, below_none, below_all}
 use Rattle.wq_seats.specs.Sums.{queued_below, IsOfQueue, HaveCounted}

@@ -9,7 +9,7 @@ use Rattle.wq_live.specs.Known.{Known, IsSame, Sees}
 use Rattle.wq_live.specs.Answers.{Chains}
 use Rattle.wq_live.specs.Batch.{batch, next_of, TakesAll}
 use Rattle.wq_live.specs.Rest.{Rests, HasRested, MayNotRest}
-use Rattle.wq_live.specs.declared.counts.OwnerCounts.{OwnerCounts}
+use Rattle.wq_calls.specs.declared.counts.OwnerCounts.{OwnerCounts}
 use Rattle.wq_live.specs.Counts.{owner_counts}
 use Rattle.wq_seats.specs.declared.error.SeatError.{SeatError}
 use Rattle.wq_seats.specs.declared.error.SeatError.TheVariants as error

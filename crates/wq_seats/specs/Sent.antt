@@ -6,7 +6,7 @@ use Rattle.wq_words.specs.declared.answer.Answer.{Answer}
 use Rattle.wq_words.specs.declared.answer.Answer.TheVariants.{Contended}
 use Rattle.wq_live.specs.Known.{Known, IsSame, Sees}
 use Rattle.wq_live.specs.Answers.{Answers, IsContended, HasFlushed}
-use Rattle.wq_live.specs.declared.counts.SenderCounts.{SenderCounts}
+use Rattle.wq_calls.specs.declared.counts.SenderCounts.{SenderCounts}
 use Rattle.wq_live.specs.Counts.{sender_counts}
 use Rattle.wq_seats.specs.declared.error.SeatError.{SeatError}
 use Rattle.wq_seats.specs.declared.error.SeatError.TheVariants as error

@@ -11,7 +11,7 @@ use Rattle.wq_words.proofs.Order.{in_order}
 use Rattle.wq_words.proofs.Prefixes.{prefix_length}
 use Rattle.wq_words.proofs.Rest.{wakes_quiet, wakes_push_work}
 use Rattle.wq_words.proofs.OtherSeats.{others_keep, surrounds, taken_still}
-use Rattle.wq_live.proofs.Reading.{empty_from_next}
+use Rattle.wq_calls.proofs.Reading.{empty_from_next}
 use Rattle.wq_worker.proofs.Draining.{left_idle}
 use Rattle.wq_worker.proofs.Others.{next_still, some_fresh}
 use Rattle.wq_worker.proofs.Phase.{shut_still}

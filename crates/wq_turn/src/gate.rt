@@ -9,3 +9,12 @@ pub trait Gate {
     /// The item's execution has ended.
     fn after(&self, queue: u32, item: u32);
 }
+
+/// A gate that does nothing.
+pub struct NoGate;
+
+impl Gate for NoGate {
+    fn before(&self, _queue: u32, _item: u32) {}
+
+    fn after(&self, _queue: u32, _item: u32) {}
+}

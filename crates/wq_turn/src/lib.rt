@@ -8,7 +8,7 @@ mod runner;
 mod served;
 mod worker_id;
 
-pub use gate::Gate;
+pub use gate::{Gate, NoGate};
 pub use runner::Runner;
-pub use served::{Served, ServedOf, ValueServed};
+pub use served::{Served, ServedOf};
 pub use worker_id::WorkerId;

@@ -12,7 +12,7 @@ ghost use Rattle.wq_turn.specs.Owed.{IsOwed};
 ghost use Rattle.wq_turn.specs.Steps.{SettlesOne, RunsOne, MakesProgress, WorksOn, EndsJust};
 ghost use Rattle.wq_turn.specs.WorkerId.{worker_id};
 
-use crate::gate::Gate;
+use crate::gate::{Gate, NoGate};
 use crate::noted::Noted;
 use crate::served::ServedOf;
 use std::marker::Model;
@@ -33,15 +33,6 @@ pub(crate) enum Progress {
 pub struct Runner<K: Station> {
     worker: Noted<K>,
     owes: bool,
-}
-
-// A gate for a drain, at which nobody looks.
-struct NoGate;
-
-impl Gate for NoGate {
-    fn before(&self, _queue: u32, _item: u32) {}
-
-    fn after(&self, _queue: u32, _item: u32) {}
 }
 
 impl<K: Station> Model for Runner<K> {

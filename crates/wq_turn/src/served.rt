@@ -10,7 +10,7 @@ ghost use Rattle.wq_turn.specs.Finished.{IsFinishedBy};
 
 use crate::noted::Noted;
 use std::marker::Model;
-use wq_worker::{Station, ValueWorker, Worker};
+use wq_worker::{Station, Worker};
 
 /// A worker that owes no execution, and whose queue does not drain, so that another thread can go on with its queue.
 #[derive(Drop)]
@@ -20,9 +20,6 @@ pub struct ServedOf<K: Station> {
 
 /// A plain worker that owes no execution: one whose items bring no values.
 pub type Served<W> = ServedOf<Worker<W>>;
-
-/// A worker whose items bring values, that owes no execution, and whose queue does not drain.
-pub type ValueServed<V, W> = ServedOf<ValueWorker<V, W>>;
 
 impl<K: Station> Model for ServedOf<K> {
     ghost use Rattle.wq_words.specs.History.{IsRunning, IsDraining};

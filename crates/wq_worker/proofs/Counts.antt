@@ -1,7 +1,7 @@
 -- What a worker's two seats have counted, summed.
 use Rattle.wq_worker.proofs.Common.{◌≡◌, ℕ, List, ap, ◌∙◌, Event, own_totals}
-use Rattle.wq_live.specs.declared.counts.SenderCounts.{SenderCounts}
-use Rattle.wq_live.specs.declared.counts.OwnerCounts.{OwnerCounts}
+use Rattle.wq_calls.specs.declared.counts.SenderCounts.{SenderCounts}
+use Rattle.wq_calls.specs.declared.counts.OwnerCounts.{OwnerCounts}
 use Rattle.wq_live.specs.Counts.{sender_counts, owner_counts}
 use Rattle.wq_ledger.specs.declared.totals.Totals.{Totals}
 use Rattle.wq_ledger.specs.Totals.{totals_of}

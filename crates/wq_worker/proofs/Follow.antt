@@ -14,7 +14,7 @@ use Rattle.wq_worker.proofs.Owned.{IsQuiet, quiet_none, quiet_append, Stays, qui
 use Rattle.wq_words.proofs.Closed.{closed_shuts}
 use Rattle.wq_worker.proofs.Pair.{both_on, by_owner, by_sender}
 use Rattle.wq_worker.proofs.Phase.{phase_grown, unclosed_still}
-use Rattle.wq_live.proofs.Refused.{closed_by}
+use Rattle.wq_calls.proofs.Refused.{closed_by}
 use Rattle.wq_worker.proofs.Refusals.{met_none}
 
 quiet_as : (xs es : List Event) → es ≡ xs → IsQuiet xs → IsQuiet es

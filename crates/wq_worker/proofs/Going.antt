@@ -1,15 +1,12 @@
 -- What was seen goes on, so what was accepted, begun and ended before begins what is now.
-use Rattle.wq_worker.proofs.Common.{◌≡◌, ℕ, List, [], ◌∷◌, ◌++◌, sym, refl, ap, ◌∙◌, subst, arith, filter_map-append, Event, End, Drain, Resume, accepted}
+use Rattle.wq_worker.proofs.Common.{◌≡◌, ℕ, List, [], ◌∷◌, ◌++◌, sym, ap, ◌∙◌, subst, arith, filter_map-append, Event, End, Drain, Resume, accepted}
 use Rattle.wq_worker.proofs.Common.{begun_by, begun, ended, IsClosed, IsLegal, IsComplete, HasRunOut, in_order, Ran, Item, Barrier, Stop}
 use Rattle.wq_worker.proofs.Common.{Nothing, Owing, WorkerState, Moves, EndsBy, OwesBy, owes, RunsBy, RowBy, none, more, Shuts, drains, Resumes}
 use Rattle.wq_worker.proofs.Common.{stays_closed, reopens}
-use Rattle.wq_worker.proofs.Common.{◌≤◌, length, take, Option, Some, None, Layout, Learnt, items_among, pairs_of, ValueWorkerState, owner_in}
+use Rattle.wq_worker.proofs.Common.{Layout, items_among}
 use mathlib.Core.List.{IsPrefix}
 use Rattle.std.specs.Prelude.{nat_lt}
 use Rattle.std.proofs.lemmas.List.Elements.{filter-append}
-use Rattle.wq_words.proofs.Legal.{legal_front}
-use Rattle.wq_worker.specs.ValueState.{ran_pairs}
-use Rattle.wq_worker.proofs.Logged.{few_begun}
 use Rattle.wq_words.specs.History.{accepted_by, ended_by}
 use Rattle.wq_words.proofs.Closed.{closed_shuts}
 use Rattle.wq_words.proofs.Prefixes.{prefix_self, prefix_on, prefix_whole}
@@ -41,28 +38,6 @@ log_more layout later v w l m was is size p =
 
 pub same_more : {W X : Type 0} (log : W → List X) (u w : W) → w ≡ u → IsPrefix (log u) (log w)
 same_more {X = X} log u w same = subst (λ (x : _). IsPrefix (log u) (log x)) (sym same) (prefix_self (log u))
-
-module _ {V : Type 0} where
-  pairs_more : (xs ys : List ℕ) (us vs : List (Option V)) → length xs ≤ length us
-      → IsPrefix (pairs_of xs (take (length xs) us)) (pairs_of (xs ++ ys) (take (length (xs ++ ys)) (us ++ vs)))
-  pairs_more [] ys us vs few = (pairs_of ys (take (length ys) (us ++ vs)), refl)
-  pairs_more (x ∷ xs) ys [] vs few = absurd (omega (arith, few))
-  pairs_more (x ∷ xs) ys (Some v ∷ us) vs few =
-      let p = pairs_more xs ys us vs (omega (arith, few)) in (p.0, ap (λ (z : List (ℕ × V)). (x, v) ∷ z) p.1)
-  pairs_more (x ∷ xs) ys (None ∷ us) vs few = pairs_more xs ys us vs (omega (arith, few))
-
-  -- a log of the pairs that began goes on
-  pub pairs_log : {W : Type 0} (a b : ValueWorkerState V W) (l m : List (ℕ × V)) → l ≡ ran_pairs a → m ≡ ran_pairs b
-      → IsPrefix a.worker.seen b.worker.seen → IsLegal b.worker.layout b.worker.seen → Learnt (owner_in a) (owner_in b) → IsPrefix l m
-  pairs_log a b l m was is p legal learnt =
-      let h = a.worker.seen in let bs = begun_more h b.worker.seen p in
-      let few : length (begun h) ≤ length a.brought = few_begun b.worker.layout h a.brought
-      (legal_front b.worker.layout h p.0 (subst (IsLegal b.worker.layout) (sym p.1) legal)) learnt.was_whole in
-      let q = pairs_more (begun h) bs.0 a.brought learnt.more.0 few in (
-        q.0,
-        ap (λ (z : List (ℕ × V)). z ++ q.0) was ∙
-            (q.1 ∙ ((λ i. pairs_of (bs.1 i) (take (length (bs.1 i)) (learnt.more.1 i))) ∙ sym is)),
-      )
 
 -- where a queue has run out, all that was accepted has ended, in that order
 pub out_ended : (h : List Event) (layout : Layout) → IsLegal layout h → HasRunOut h → IsPrefix (accepted h) (ended h)

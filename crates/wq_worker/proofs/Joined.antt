@@ -1,14 +1,8 @@
 -- What the owner and the sender of a worker have seen once they are one seat.
-use Rattle.wq_worker.proofs.Common.{◌≡◌, ℕ, ◌+◌, List, [], ◌∷◌, ◌++◌, length, refl, sym, ap, ◌∙◌, subst, arith, length-append, append-nil, Layout}
-use Rattle.wq_worker.proofs.Common.{Event, begun, IsRunning, IsShut, IsLegal, owner_seat, own, Grows, Known, Sees, new_senders, KnownPair, pair_owner}
+use Rattle.wq_worker.proofs.Common.{◌≡◌, ℕ, List, [], length, refl, sym, ap, ◌∙◌, subst, arith, append-nil, Layout}
+use Rattle.wq_worker.proofs.Common.{Event, begun, IsRunning, IsShut, IsLegal, owner_seat, own, Grows, Known, Sees, KnownPair, pair_owner}
 use Rattle.wq_worker.proofs.Common.{WorkerState}
-use Rattle.std.proofs.Common.{map}
-use Rattle.std.proofs.lemmas.List.{length-map}
-use Rattle.wq_words.proofs.Growing.{ends_alike}
-use Rattle.wq_live.specs.Known.{QueueId, new_sender}
-use Rattle.wq_live.specs.KnownWith.{KnownWith, knowing_nothing}
-use Rattle.wq_live.proofs.Built.{values-more}
-use Rattle.wq_live.proofs.Seated.{length-new_senders, made_nothing}
+use Rattle.wq_calls.proofs.Seated.{made_nothing}
 use Rattle.wq_worker.specs.State.{IsMadeOf, IsNew}
 use Rattle.wq_worker.proofs.Owned.{owner_grows}
 use Rattle.wq_worker.proofs.Phase.{phase_grown, open_still}
@@ -44,14 +38,3 @@ made_new layout work tries owner sender w size none nothing parts owned sent leg
 -- a queue that was open before anything was seen of it
 pub made_open : (v w : List Event) → v ≡ [] → (¬ IsShut v → ¬ IsShut w) → ¬ IsShut w
 made_open v w none opens = opens (λ is. let shut : IsShut [] = subst IsShut none is in omega (arith, shut))
-
--- the last of the senders whose items bring values is taken away
-pub values_less : {V : Type 0} (q : QueueId) (l : Layout) (m : ℕ) (xs ys : List (KnownWith V)) (b : KnownWith V)
-    → xs ≡ map knowing_nothing (new_senders q l m) → xs ≡ ys ++ b ∷ []
-    → (ys ≡ map knowing_nothing (new_senders q l (length ys))) × (b ≡ knowing_nothing (new_sender q l (length ys)))
-values_less {V} q l m xs ys b made one =
-    let row = λ (n : ℕ). map (knowing_nothing {V = V}) (new_senders q l n) in
-    let count : m ≡ length ys + 1 =
-    sym (length-new_senders q l m) ∙ (sym (length-map (new_senders q l m) (knowing_nothing {V = V})) ∙
-    (ap length (sym made ∙ one) ∙ length-append ys (b ∷ []))) in
-    ends_alike ys (row (length ys)) b (knowing_nothing (new_sender q l (length ys))) (sym one ∙ (made ∙ (ap row count ∙ sym (values-more V q l (length ys)))))

@@ -2,7 +2,7 @@
 use Rattle.wq_worker.proofs.Common.{◌≡◌, ℕ, ◌<◌, ◌==◌, false, List, [], ◌++◌, slice_get, ap, ◌∙◌, subst, arith, Layout, Event, IsLegal, owner_seat, own}
 use Rattle.wq_worker.proofs.Common.{next_of}
 use Rattle.std.proofs.lemmas.Bool.Decides.{nat_tests}
-use Rattle.wq_live.proofs.OwnerStays.{batch_still}
+use Rattle.wq_calls.proofs.OwnerStays.{batch_still}
 
 pub next_still : (layout : Layout) (v w new : List Event) → w ≡ v ++ new → IsLegal layout w → own owner_seat new ≡ [] → next_of w ≡ next_of v
 next_still layout v w new is legal none =

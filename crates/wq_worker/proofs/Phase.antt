@@ -4,8 +4,8 @@ use Rattle.wq_worker.proofs.Common.{IsDraining, shut, owner_seat, seat_of, Grows
 use Rattle.std.proofs.Common.{eqb}
 use Rattle.wq_words.specs.History.{is_drain, closed}
 use Rattle.wq_words.proofs.Closed.{closed_from_IsClosed, IsClosed_from_closed, open_from_closed}
-use Rattle.wq_live.proofs.Counting.{count_on}
-use Rattle.wq_live.proofs.Phases.{closed_quiet, shut_still as shut_quiet}
+use Rattle.wq_calls.proofs.Counting.{count_on}
+use Rattle.wq_calls.proofs.Phases.{closed_quiet, shut_still as shut_quiet}
 
 pub turns_own : (e : Event) → eqb (seat_of e) owner_seat ≡ false → is_turn e ≡ false
 turns_own Close is = is

@@ -3,7 +3,7 @@ use Rattle.wq_worker.proofs.Common.{◌≡◌, ℕ, Bool, true, false, List, [],
 use Rattle.wq_worker.proofs.Common.{Event, Grows, owner_seat, Known, Sees, next_of, taking}
 use Rattle.wq_worker.proofs.Common.{NothingWaits, WorkerState, Moves, rest_events, IsReady, IsUnready}
 use Rattle.wq_worker.specs.Resting.{HasNoneLeft, LeavesWork, nothing}
-use Rattle.wq_live.proofs.OwnerStays.{still_owned}
+use Rattle.wq_calls.proofs.OwnerStays.{still_owned}
 use Rattle.wq_worker.proofs.Owned.{owner_grows, quiet_none, quiet_stays}
 
 pub ready_told : {W : Type 0} (a b : WorkerState W) (r : Option ℕ) → r ≡ next_of b.seen → (r ≡ None → NothingWaits b.seen) → ¬ IsRunning b.seen

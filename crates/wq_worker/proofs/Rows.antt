@@ -8,7 +8,7 @@ use Rattle.wq_worker.specs.Step.{LeavesRunning, StartsBy, item, other, owed, end
 use Rattle.wq_worker.specs.Rows.{Along, here, onward, GoesOn, RunsSomeBy, full, broken, RunsOutBy, Closes, was_closed, closes, was_shut}
 use Rattle.wq_worker.proofs.Owned.{owner_grown, owner_of_both, quiet_stays}
 use Rattle.wq_worker.proofs.Follow.{quiet_follows, quiet_contended}
-use Rattle.wq_live.proofs.Phases.{open_then}
+use Rattle.wq_calls.proofs.Phases.{open_then}
 use Rattle.wq_worker.proofs.Phase.{SamePhase, phase_still, phase_on, open_still, unclosed_still, closed_still, shut_still}
 use Rattle.wq_worker.proofs.State.{quiet_taking, turns_taking}
 

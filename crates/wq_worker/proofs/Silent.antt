@@ -1,7 +1,7 @@
 -- A worker whose work asks for nothing adds the owner's takes, begins and ends alone, and the close, drain and resume of a call.
 use Rattle.std.proofs.Common.{◌≢◌}
 use Rattle.wq_worker.proofs.Common.{◌≡◌, ℕ, ◌<◌, Bool, true, false, ◌==◌, Option, Some, None, List, [], ◌∷◌, ◌++◌, refl, sym, ap, ◌∙◌, subst, arith, append-nil}
-use Rattle.wq_worker.proofs.Common.{or_parts, filter_map-append, count_by, count_by-append, Event, Begin, Close, Drain, End, Resume, Take, accepted, begun, ended}
+use Rattle.wq_worker.proofs.Common.{or_parts, filter_map-append, count_by, count_by-append, Event, Begin, Close, Drain, End, Rest, Resume, Take, accepted, begun, ended}
 use Rattle.wq_worker.proofs.Common.{shut, IsRunning, owner_seat, seat_of, own, is_ours, runs_some, next_of, taking, Follows, WorkerState, Moves, EndsBy, OwesBy}
 use Rattle.wq_worker.proofs.Common.{owes, RunsBy, RowBy, none, more, IsExecution, Shuts, drains, Resumes, stays_closed, reopens, Ran, Item, Barrier, Stop, Nothing}
 use Rattle.wq_worker.proofs.Common.{Owing}
@@ -13,6 +13,8 @@ use Rattle.wq_words.proofs.Seen.{count_same, filter-filter, own-append, own_more
 use Rattle.wq_worker.specs.Seats.{taking_of}
 use Rattle.wq_worker.specs.State.{IsSameWorker}
 use Rattle.wq_worker.specs.Step.{StartsBy, item, other, owed, ends}
+use Rattle.wq_worker.specs.Works.{RunsNothing, no_event, a_take, a_rest, a_close, a_drain, a_resume, WorksInStepBy, runs as by_run, keeps as by_keeping}
+use Rattle.wq_worker.specs.Rows.{Along, here, onward}
 use Rattle.wq_worker.specs.Rows.{GoesOn, IsNotStop, RunsSomeBy, full, broken, ServesBy, DrainsBy, Closes, was_closed, closes, was_shut}
 use Rattle.wq_worker.specs.Destroy.{LeavesUnfinishedBy}
 use Rattle.wq_worker.specs.Silent.{AsksForNothing, AddsNoNumber, QueuesNoneBy, ClosesAndRuns}
@@ -148,6 +150,14 @@ module _ {W : Type 0} where
   resumes_silent a b not idle (reopens draining m work left) =
       rests_silent (Resume ∷ []) 0 a b (silent_one a.number not Resume refl refl refl refl) refl refl idle m
 
+  kept_silent : (es : List Event) (a b : WorkerState W) → RunsNothing es → a.number ≢ owner_seat → ¬ IsRunning a.seen → Moves es 0 a b → Silent a b
+  kept_silent _ a b no_event not idle m = rests_silent [] 0 a b (silent_none a.number) refl refl idle m
+  kept_silent _ a b a_take not idle m = rests_silent (Take ∷ []) 0 a b (silent_one a.number not Take refl refl refl refl) refl refl idle m
+  kept_silent _ a b a_rest not idle m = rests_silent (Rest ∷ []) 0 a b (silent_one a.number not Rest refl refl refl refl) refl refl idle m
+  kept_silent _ a b a_close not idle m = rests_silent (Close ∷ []) 0 a b (silent_one a.number not Close refl refl refl refl) refl refl idle m
+  kept_silent _ a b a_drain not idle m = rests_silent (Drain ∷ []) 0 a b (silent_one a.number not Drain refl refl refl refl) refl refl idle m
+  kept_silent _ a b a_resume not idle m = rests_silent (Resume ∷ []) 0 a b (silent_one a.number not Resume refl refl refl refl) refl refl idle m
+
   -- a sender's number is not the owner's
   seat_low : (a : WorkerState W) → a.number < a.layout.senders → a.number ≢ owner_seat
   seat_low a low is = omega (arith, low, is, a.layout.in_limits)
@@ -214,6 +224,15 @@ module _ {W : Type 0} (may : W → ℕ → List ℕ → W → Type 0) (gives : W
   closed_silent n a b c not idle close row =
       let first = closes_silent a b not idle close in silent_then a b c first (row_silent IsExecution n b c (silent_seat a b first not) first.idle row)
 
+  works_silent : (a b : WorkerState W) → a.number ≢ owner_seat → ¬ IsRunning a.seen → WorksInStepBy may gives a b → Silent a b
+  works_silent a b not idle (by_run r t) = runs_silent r a b not idle t
+  works_silent a b not idle (by_keeping es nothing moved left) = kept_silent es a b nothing not idle moved
+
+  along_silent : (a c : WorkerState W) → a.number ≢ owner_seat → ¬ IsRunning a.seen → Along (WorksInStepBy may gives) a c → Silent a c
+  along_silent a c not idle (here b) = silent_still b b idle refl
+  along_silent a c not idle (onward d b e row step) =
+      let before = along_silent d b not idle row in silent_then d b e before (works_silent b e (silent_seat d b before not) before.idle step)
+
   told : (a b : WorkerState W) → Silent a b → AddsNoNumber a.number a.seen b.seen × (¬ IsRunning b.seen)
   told a b s = (s.adds, s.idle)
 
@@ -234,3 +253,6 @@ module _ {W : Type 0} (may : W → ℕ → List ℕ → W → Type 0) (gives : W
 
   pub none_by_closing : (n : ℕ) → QueuesNoneBy (ClosesAndRuns may gives n)
   none_by_closing n a b low idle t = told a b (closed_silent n a t.0 b (seat_low a low) idle t.1 t.2)
+
+  pub none_along : QueuesNoneBy (Along (WorksInStepBy may gives))
+  none_along a b low idle t = told a b (along_silent a b (seat_low a low) idle t)

@@ -4,13 +4,9 @@ pub mod Pair
 pub mod State
 pub mod Resting
 pub mod Step
+pub mod Works
 pub mod Rows
 pub mod Destroy
-pub mod Asked
-pub mod Returned
-pub mod ValueState
-pub mod Deals
-pub mod Dealt
 pub mod Silent
 -- what its public clauses cite of the crates below, so that a caller names this crate alone
 pub use Rattle.wq_words.specs.History
@@ -21,6 +17,3 @@ pub use Rattle.wq_words.specs.Seen
 pub use Rattle.wq_live.specs.Known
 pub use Rattle.wq_live.specs.Laws
 pub use Rattle.wq_ledger.specs.Book
-pub use Rattle.wq_live.specs.KnownWith
-pub use Rattle.wq_live.specs.OwnBrought
-pub use Rattle.wq_words.specs.Valued

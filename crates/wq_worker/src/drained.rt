@@ -3,9 +3,9 @@ ghost use Rattle.std.specs.Prelude.{◌≡◌, ◌+◌, length};
 ghost use Rattle.wq_words.specs.History.{accepted, ended, IsShut};
 ghost use Rattle.wq_words.specs.Legal.{IsLegal};
 
-use crate::paired::Paired;
 use std::fmt;
 use thiserror::Error;
+use wq_calls::Paired;
 
 /// What a drain answers (`drain_workqueue`).
 #[derive(Clone, Copy, Debug, PartialEq, Eq)]
@@ -35,7 +35,7 @@ impl<K> fmt::Debug for Unfinished<K> {
 }
 
 /// How many numbers are accepted and have not ended.
-pub(crate) fn left_of<P: Paired>(pair: &P) -> u32
+pub fn left_of<P: Paired>(pair: &P) -> u32
     requires legal { IsLegal (P.known pair.now).layout (P.known pair.now).seen }
     requires shut { IsShut (P.known pair.now).seen }
     ensures { result + length (ended (P.known pair.now).seen) ≡ length (accepted (P.known pair.now).seen) }

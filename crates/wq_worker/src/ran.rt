@@ -21,7 +21,8 @@ pub enum Ran {
 }
 
 impl Ran {
-    pub(crate) fn of(layout: Layout, number: u32) -> Ran
+    /// What the execution of this number was.
+    pub fn of(layout: Layout, number: u32) -> Ran
         requires { number < number_count layout }
         ensures { IsKind layout number result }
     {

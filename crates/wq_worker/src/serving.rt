@@ -16,7 +16,7 @@ use crossbeam_utils::sync::Parker;
 use std::sync::Wait;
 
 /// Up to so many executions. How many ended.
-pub(crate) fn run_some<S: Station>(station: &mut S, limit: u32) -> u32
+pub fn run_some<S: Station>(station: &mut S, limit: u32) -> u32
     ensures runs { RunsSomeBy S.may S.gives limit result (S.state station.old) (S.state station.new) }
     ensures open { ¬ IsShut (S.state station.old).seen → ¬ IsShut (S.state station.new).seen }
     ensures unclosed { ¬ IsClosed (S.state station.old).seen → ¬ IsClosed (S.state station.new).seen }
@@ -38,7 +38,7 @@ pub(crate) fn run_some<S: Station>(station: &mut S, limit: u32) -> u32
 }
 
 /// Executes until nothing is left of a queue that takes no push, or so many executions have ended. How many numbers are left.
-pub(crate) fn run_out<S: Station>(station: &mut S, limit: u32) -> u32
+pub fn run_out<S: Station>(station: &mut S, limit: u32) -> u32
     requires { IsShut (S.state station.old).seen }
     ensures runs { RunsOutBy S.may S.gives limit result (S.state station.old) (S.state station.new) }
     ensures shut { IsShut (S.state station.new).seen }
@@ -58,7 +58,7 @@ pub(crate) fn run_out<S: Station>(station: &mut S, limit: u32) -> u32
 }
 
 /// A drain, which is resumed where nothing is left.
-pub(crate) fn drain<S: Station>(station: &mut S, limit: u32) -> Drained
+pub fn drain<S: Station>(station: &mut S, limit: u32) -> Drained
     ensures drains { DrainsBy S.may S.gives limit result (S.state station.old) (S.state station.new) }
     ensures open { result ≡ Empty → ¬ IsClosed (S.state station.old).seen → ¬ IsShut (S.state station.new).seen }
     ensures shut { (left : ℕ) → result ≡ TooLong left → IsShut (S.state station.new).seen }
@@ -80,7 +80,7 @@ pub(crate) fn drain<S: Station>(station: &mut S, limit: u32) -> Drained
 }
 
 /// Executes until the stop item ran, and passes time or parks where nothing waits.
-pub(crate) fn serve<R: Wait, S: Station>(rt: &R, station: &mut S, parker: &Parker)
+pub fn serve<R: Wait, S: Station>(rt: &R, station: &mut S, parker: &Parker)
     requires open { ¬ IsShut (S.state station.old).seen }
     ensures serves { ServesBy S.may S.gives (S.state station.old) (S.state station.new) }
     ensures open { ¬ IsShut (S.state station.new).seen }
@@ -104,7 +104,7 @@ pub(crate) fn serve<R: Wait, S: Station>(rt: &R, station: &mut S, parker: &Parke
 }
 
 /// Closes the queue where it is not closed.
-pub(crate) fn close_where_unclosed<S: Station>(station: &mut S)
+pub fn close_where_unclosed<S: Station>(station: &mut S)
     ensures closes { Closes (S.state station.old) (S.state station.new) }
     ensures closed { IsClosed (S.state station.new).seen }
     ensures deals { Along S.deals station.old station.new }

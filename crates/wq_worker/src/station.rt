@@ -18,7 +18,7 @@ use crate::ran::Ran;
 use wq_live::Spins;
 use wq_words::Layout;
 
-/// What serves a queue. Its calls are those of `Worker`, of which `Worker` and `ValueWorker` have more.
+/// What serves a queue. Its calls are those of `Worker`, which has more, as `ValueWorker` of `wq_value_worker` has.
 pub trait Station {
     /// The work that it runs.
     type Work;
@@ -35,7 +35,8 @@ pub trait Station {
     /// What the givings back of a step may leave of the work that goes on with what was owed.
     ghost gives: { Self.Work → Self.Work → Type 0 };
 
-    /// What one step does with the pairs that the work asks for; nothing is said where items bring no values.
+    /// What one step does: a run, or a step that runs nothing and leaves the work as it was; and what becomes of the pairs that a
+    /// run asks for, where items bring values.
     ghost deals: { Self → Self → Type 0 };
 
     /// What a book is without values.

@@ -12,11 +12,11 @@ ghost use Rattle.wq_worker.specs.Seats.{taking, NothingWaits};
 ghost use Rattle.wq_worker.specs.Resting.{HasNoneLeft, rest_events};
 ghost use Rattle.wq_worker.specs.Pair.{settled, StaysOr, Both, BothFindNothing, BothBegin, BothQueue, QueuesRest};
 
-use crate::paired::Paired;
+use wq_calls::Paired;
 use wq_live::{Answer, Pair};
 
 /// Whether the queue takes no push now: it is closed, or it drains.
-pub(crate) fn is_shut<P: Paired>(pair: &P) -> bool
+pub fn is_shut<P: Paired>(pair: &P) -> bool
     ensures { result ≡ shut (P.known pair.now).seen }
 {
     pair.is_closed() || pair.is_draining()
@@ -60,7 +60,7 @@ pub(crate) fn begin_next(pair: &mut Pair) -> Option<u32>
 }
 
 /// Makes the take that a begin would make, and answers the oldest number that was taken and has not begun.
-pub(crate) fn take_next<P: Paired>(pair: &mut P) -> Option<u32>
+pub fn take_next<P: Paired>(pair: &mut P) -> Option<u32>
     requires legal { IsLegal (P.known pair.old).layout (P.known pair.old).seen }
     ensures both { Both (taking (P.known pair.old).seen) 0 (P.known pair.old) (P.known pair.new) }
     ensures next { result ≡ next_of (P.known pair.new).seen }
@@ -73,7 +73,7 @@ pub(crate) fn take_next<P: Paired>(pair: &mut P) -> Option<u32>
 
 /// Rests, where nothing is left. False where something was pushed since the last take, drain or resume, or where the queue rests
 /// already.
-pub(crate) fn rest<P: Paired>(pair: &mut P) -> bool
+pub fn rest<P: Paired>(pair: &mut P) -> bool
     requires open { ¬ IsShut (P.known pair.old).seen }
     requires none { HasNoneLeft (P.known pair.old).seen }
     ensures both { Both (rest_events result) 0 (P.known pair.old) (P.known pair.new) }
@@ -88,7 +88,7 @@ pub(crate) fn rest<P: Paired>(pair: &mut P) -> bool
 }
 
 /// Ends what runs.
-pub(crate) fn end_running<P: Paired>(pair: &mut P)
+pub fn end_running<P: Paired>(pair: &mut P)
     requires runs { IsRunning (P.known pair.old).seen }
     ensures both { (k : ℕ) → running (P.known pair.old).seen ≡ Some k → Both (End k ∷ []) 0 (P.known pair.old) (P.known pair.new) }
     ensures kept { P.keeps pair.old pair.new }

@@ -432,7 +432,9 @@ impl<W: Work> Station for Worker<W> {
 
     ghost gives = { stays };
 
-    ghost deals = { λ a b. Unit {0} };
+    ghost use Rattle.wq_worker.specs.Works.{WorksInStep};
+
+    ghost deals = { WorksInStep W.may };
 
     ghost book = { λ b. b };
 

@@ -6,7 +6,8 @@ use crate::plan::Load;
 use crate::refusal::Refusal;
 use crate::values::payload::Payload;
 use crate::values::posts::{join_all, offer, start};
-use wq_live::{Spins, ValueOwner, ValueSender, build_values};
+use wq_live::Spins;
+use wq_values::{ValueOwner, ValueSender, build_values};
 
 /// How many executions ended, in how many takes that found something, what the values came to, and how many the sender queued that
 /// queued fewest.

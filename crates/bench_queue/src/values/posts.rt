@@ -4,7 +4,7 @@ use crate::posts::pause;
 use crate::refusal::Refusal;
 use crate::values::payload::Payload;
 use std::thread::{self, JoinHandle};
-use wq_live::{ValueAnswer, ValueSender};
+use wq_values::{ValueAnswer, ValueSender};
 
 /// Queues an item with a value once it is no longer pending. False where the queue is closed.
 pub fn offer<V: Payload>(sender: &mut ValueSender<V>, item: u32) -> bool {

@@ -3,15 +3,16 @@
 ghost use Rattle.wq_ready.specs.Known.{IsCallerOf};
 
 use crate::expect::expect_same;
-use crate::pool::team::{Open, finish_out, new_pool, serve_queue, work_back};
+use crate::pool::team::{finish_out, new_pool, serve_queue, work_back};
 use crate::pool::values::{Carrying, empty_with_values, queue_value};
 use std::alloc::Global;
 use std::process::Abort;
 use std::sync::{Arc, Wait};
 use std::test::Fail;
-use wq_live::ValueSender;
-use wq_pool::{Caller, ValuePool, ValueServed};
-use wq_worker::ValueBook;
+use wq_pool::{Caller, NoGate};
+use wq_value_pool::{ValuePool, ValueServed};
+use wq_value_worker::ValueBook;
+use wq_values::ValueSender;
 
 type Shared<'a, R> = ValueServed<Arc<u32>, Carrying<'a, R, Arc<u32>>>;
 
@@ -104,7 +105,7 @@ fn drop_turn<R: Abort + Wait>(
 {
     pool.announce(rt, caller, 1).expect(rt, "room");
     let turn = pool.pick(rt, caller).expect(rt, "a turn");
-    let turn = work_back(rt, turn, 1, &Open);
+    let turn = work_back(rt, turn, 1, &NoGate);
     expect_same(rt, alive(shared), 6);
     drop(turn);
     expect_same(rt, alive(shared), 5);

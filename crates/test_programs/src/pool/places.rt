@@ -5,7 +5,7 @@ ghost use Rattle.wq_ready.specs.Known.{IsCallerOf};
 use crate::expect::expect_same;
 use crate::pool::serving::{Two, new_two};
 use crate::pool::team::{
-    Guest, Logging, Open, empty, finish_unfinished, new_pool_for, queue_item, serve_queue, work,
+    Guest, Logging, empty, finish_unfinished, new_pool_for, queue_item, serve_queue, work,
 };
 use std::alloc::Global;
 use std::process::Abort;
@@ -14,7 +14,7 @@ use std::sync::atomic::AtomicU64;
 use std::sync::atomic::Ordering::SeqCst;
 use std::thread::{Threads, join, yield_now};
 use wq_live::Sender;
-use wq_pool::{Caller, Gate, Pool, Served};
+use wq_pool::{Caller, Gate, NoGate, Pool, Served};
 
 /// So often it is looked what the other thread has done.
 const LOOKS: u32 = 20_000_000;
@@ -166,7 +166,7 @@ fn serve_announced<R: Abort + Wait>(rt: &R, guest: &mut Guest<'_>) -> u32 {
         let Some(turn) = guest.pool.pick(rt, &mut guest.caller) else {
             return served;
         };
-        let worked = work(rt, turn, 9999, &Open);
+        let worked = work(rt, turn, 9999, &NoGate);
         guest.pool.put_back(&mut guest.caller, worked);
     }
     9

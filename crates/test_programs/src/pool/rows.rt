@@ -3,15 +3,13 @@ ghost use Rattle.std.specs.Prelude.{◌≡◌};
 ghost use Rattle.wq_ready.specs.Known.{IsCallerOf};
 
 use crate::expect::expect_same;
-use crate::pool::team::{
-    Open, all_filled, finish_out, finish_unfinished, new_pool, two_filled, work,
-};
+use crate::pool::team::{all_filled, finish_out, finish_unfinished, new_pool, two_filled, work};
 use crate::pool::values::{Ordered, all_with_values, two_with_values};
 use std::alloc::Global;
 use std::process::Abort;
 use std::sync::Wait;
 use wq_live::Answer;
-use wq_pool::{AnnounceError, Caller, PoolError, PoolOf, ServedOf, TurnOf};
+use wq_pool::{AnnounceError, Caller, NoGate, PoolError, PoolOf, ServedOf, TurnOf};
 use wq_worker::Station;
 
 /// As many announcements wait as there are queues, whichever they are of.
@@ -62,7 +60,7 @@ fn end_turn<R: Abort, K: Station + Drop>(
     requires turn { turn.slots ≡ pool.now.slots }
     ensures { caller.new ≡ caller.old }
 {
-    let worked = work(rt, turn, 9, &Open);
+    let worked = work(rt, turn, 9, &NoGate);
     pool.put_back(caller, worked);
 }
 
@@ -168,7 +166,7 @@ where
     let turn = pool.pick(rt, &mut caller).expect(rt, "a turn");
     let (pool, queue) = finish_out(rt, pool, 1);
     expect_same(rt, queue, 1);
-    let worked = work(rt, turn, 9, &Open);
+    let worked = work(rt, turn, 9, &NoGate);
     pool.put_back(&mut caller, worked);
     let finished = pool.finish(1).expect(rt, "all finished");
     expect_same(rt, finished.len(), 2);

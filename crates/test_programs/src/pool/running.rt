@@ -1,7 +1,7 @@
 //! When a run of a pool ends.
 use crate::expect::expect_same;
 use crate::pool::team::{
-    Guest, Logging, Open, empty, filled, finish_unfinished, new_pool, new_pool_for, queue_item,
+    Guest, Logging, empty, filled, finish_unfinished, new_pool, new_pool_for, queue_item,
     take_last, to_stop, work,
 };
 use std::alloc::Global;
@@ -10,7 +10,7 @@ use std::slice;
 use std::sync::Wait;
 use std::thread::Threads;
 use wq_live::Sender;
-use wq_pool::{Pool, Served};
+use wq_pool::{NoGate, Pool, Served};
 
 /// One worker runs a pool of so many queues.
 fn run_alone<R: Abort + Threads + Wait + Sync>(rt: &R, mut guest: Guest<'_>, queues: u32) {
@@ -22,7 +22,7 @@ fn run_alone<R: Abort + Threads + Wait + Sync>(rt: &R, mut guest: Guest<'_>, que
         mut caller,
         ..
     } = guest;
-    pool.run(rt, slice::from_mut(&mut caller), &Open)
+    pool.run(rt, slice::from_mut(&mut caller), &NoGate)
         .expect(rt, "a thread");
 }
 
@@ -37,7 +37,7 @@ fn stop_first<R: Abort + Wait>(rt: &R, guest: &mut Guest<'_>, sender: &mut Sende
     sender.request_stop(1);
     assert!(rt; guest.announce(rt, 0));
     let turn = guest.pool.pick(rt, &mut guest.caller).expect(rt, "a turn");
-    let worked = work(rt, turn, 9, &Open);
+    let worked = work(rt, turn, 9, &NoGate);
     guest.pool.put_back(&mut guest.caller, worked);
 }
 
@@ -128,7 +128,7 @@ fn no_worker_runs_nothing(rt: HostRuntime) {
     let queues = to_stop(&rt, rt.alloc(), 2, 1);
     let (pool, mut callers) = Pool::new(rt.alloc(), queues, 0).expect(&rt, "a pool");
     expect_same(&rt, callers.len(), 0);
-    pool.run(&rt, callers.as_mut_slice(), &Open)
+    pool.run(&rt, callers.as_mut_slice(), &NoGate)
         .expect(&rt, "threads");
     let (_pool, queue, left) = finish_unfinished(&rt, pool, 0);
     expect_same(&rt, (queue, left), (0, 2));

@@ -3,13 +3,13 @@ ghost use Rattle.std.specs.Prelude.{All};
 ghost use Rattle.wq_ready.specs.Known.{IsCallerOf};
 
 use crate::expect::expect_same;
-use crate::pool::team::{Guest, Logging, Open, empty, finish_unfinished, new_pool_for};
+use crate::pool::team::{Guest, Logging, empty, finish_unfinished, new_pool_for};
 use std::alloc::Global;
 use std::process::Abort;
 use std::sync::Wait;
 use std::thread::{Threads, join, yield_now};
 use wq_live::Sender;
-use wq_pool::{Caller, Pool, Served};
+use wq_pool::{Caller, NoGate, Pool, Served};
 
 /// So often it is looked whether a queue was served.
 const LOOKS: u32 = 20_000_000;
@@ -90,7 +90,7 @@ fn run_beside<R: Abort + Threads + Wait + Sync>(
         rt,
         move ||
             requires { All (IsCallerOf pool.now.ready) workers.items }
-        { pool.run(rt, workers.as_mut_slice(), &Open) },
+        { pool.run(rt, workers.as_mut_slice(), &NoGate) },
         move || queue_rounds(rt, &mut guest, &mut one, &mut two),
     );
     ran.expect(rt, "a thread");

@@ -4,13 +4,13 @@ ghost use Rattle.wq_ready.specs.Known.{IsCallerOf};
 
 use crate::expect::expect_same;
 use crate::pool::team::{
-    Counting, Guest, Logging, Open, filled, finish_out, take_last, two_filled, work, work_back,
+    Counting, Guest, Logging, filled, finish_out, take_last, two_filled, work, work_back,
 };
 use std::alloc::Global;
 use std::process::Abort;
 use std::sync::Wait;
 use std::thread::{Threads, join_mut};
-use wq_pool::{Caller, Pool, Served, Turn};
+use wq_pool::{Caller, NoGate, Pool, Served, Turn};
 
 /// Three queues, with three items queued in each.
 fn three_filled<R: Abort>(rt: &R, alloc: Global) -> Vec<Served<Logging>> {
@@ -27,7 +27,7 @@ fn work_one<R: Abort + Wait>(rt: &R, pool: &Pool<Logging>, mut caller: Caller) -
     let is_announced = pool.announce(rt, &mut caller, 1).is_ok();
     assert!(rt; is_announced);
     let turn = pool.pick(rt, &mut caller).expect(rt, "a turn");
-    work_back(rt, turn, 1, &Open)
+    work_back(rt, turn, 1, &NoGate)
 }
 
 /// Announces a queue, picks one, works at it to its end and puts it back.

@@ -10,7 +10,9 @@ use std::sync::atomic::Ordering::SeqCst;
 use std::sync::{Mutex, Wait};
 use trail::Trail;
 use wq_live::{Answer, Sender};
-use wq_pool::{Caller, Gate, Pool, PoolFaultOf, PoolOf, Served, ServedOf, TurnOf, WorkedOf};
+use wq_pool::{
+    Caller, Gate, NoGate, Pool, PoolFaultOf, PoolOf, Served, ServedOf, TurnOf, WorkedOf,
+};
 use wq_words::Layout;
 use wq_worker::{Follow, Station, Work, Worker};
 
@@ -54,19 +56,6 @@ impl Work for Logging {
             let _ = follow.try_push(item % 100);
         }
         follow
-    }
-}
-
-/// A gate that looks at nothing.
-pub(crate) struct Open;
-
-impl Gate for Open {
-    fn before(&self, queue: u32, item: u32) {
-        let _ = (queue, item);
-    }
-
-    fn after(&self, queue: u32, item: u32) {
-        let _ = (queue, item);
     }
 }
 
@@ -325,7 +314,7 @@ pub(crate) fn serve_queue<R: Abort + Wait, K: Station + Drop>(
 {
     pool.announce(rt, caller, queue).expect(rt, "room");
     let turn = pool.pick(rt, caller).expect(rt, "a turn");
-    let worked = work(rt, turn, 9, &Open);
+    let worked = work(rt, turn, 9, &NoGate);
     assert!(rt; worked.queue() == queue);
     pool.put_back(caller, worked);
 }

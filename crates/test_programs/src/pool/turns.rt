@@ -4,7 +4,7 @@ ghost use Rattle.wq_ready.specs.Known.{IsCallerOf};
 
 use crate::expect::expect_same;
 use crate::pool::team::{
-    Logging, Open, finish_out, new_pool, new_queue, queue_item, two_filled, work, work_back,
+    Logging, finish_out, new_pool, new_queue, queue_item, two_filled, work, work_back,
 };
 use std::alloc::Global;
 use std::cell::Cell;
@@ -12,7 +12,7 @@ use std::process::Abort;
 use std::sync::Wait;
 use trail::Trail;
 use wq_live::Sender;
-use wq_pool::{Caller, Gate, Pool, Served, TurnOf, WorkedOf};
+use wq_pool::{Caller, Gate, NoGate, Pool, Served, TurnOf, WorkedOf};
 use wq_words::Layout;
 use wq_worker::{Follow, Station, Work};
 
@@ -124,7 +124,7 @@ fn drop_first<R: Abort + Wait>(rt: &R, pool: &Pool<Logging>, caller: &mut Caller
 {
     drop(pool.pick(rt, caller).expect(rt, "a turn"));
     let turn = pool.pick(rt, caller).expect(rt, "a second turn");
-    let worked = work(rt, turn, 9, &Open);
+    let worked = work(rt, turn, 9, &NoGate);
     expect_same(rt, worked.queue(), 0);
     pool.put_back(caller, worked);
 }

@@ -4,10 +4,11 @@ ghost use Rattle.std.specs.Prelude.{◌≡◌, []};
 use crate::pool::team::Logging;
 use std::alloc::Global;
 use std::process::Abort;
-use wq_live::{ValueAnswer, ValueSender};
-use wq_pool::{ServedOf, ValueServed};
+use wq_pool::ServedOf;
+use wq_value_pool::ValueServed;
+use wq_value_worker::{ValueFollow, ValueWork, ValueWorker};
+use wq_values::{ValueAnswer, ValueSender};
 use wq_words::Layout;
-use wq_worker::{ValueFollow, ValueWork, ValueWorker};
 
 /// A work that keeps what it ran, and what came back. It asks for nothing.
 #[derive(Drop)]

@@ -6,7 +6,7 @@ ghost use Rattle.wq_live.specs.Batch.{batch};
 use wq_live::{Answer, Owner};
 
 /// The queue is open.
-#[tactic(auto, using(wq_live::proofs::Reading::reading))]
+#[tactic(auto, using(wq_calls::proofs::Reading::reading))]
 pub(crate) fn is_open(owner: &Owner) -> bool
     ensures { IsTrue result → ¬ IsShut owner.now.seen }
 {
@@ -17,7 +17,7 @@ pub(crate) fn is_open(owner: &Owner) -> bool
 }
 
 /// The queue is not closed.
-#[tactic(auto, using(wq_live::proofs::Reading::reading))]
+#[tactic(auto, using(wq_calls::proofs::Reading::reading))]
 pub(crate) fn is_unclosed(owner: &Owner) -> bool
     ensures { IsTrue result → ¬ IsClosed owner.now.seen }
 {
@@ -25,7 +25,7 @@ pub(crate) fn is_unclosed(owner: &Owner) -> bool
 }
 
 /// The queue takes no push: it is closed, or drains.
-#[tactic(auto, using(wq_live::proofs::Reading::reading))]
+#[tactic(auto, using(wq_calls::proofs::Reading::reading))]
 pub(crate) fn is_shut(owner: &Owner) -> bool
     ensures { IsTrue result → IsShut owner.now.seen }
 {
@@ -36,7 +36,7 @@ pub(crate) fn is_shut(owner: &Owner) -> bool
 }
 
 /// The queue is open, and nothing that was taken waits.
-#[tactic(auto, using(wq_live::proofs::Reading::reading))]
+#[tactic(auto, using(wq_calls::proofs::Reading::reading))]
 pub(crate) fn may_take(owner: &Owner) -> bool
     ensures open { IsTrue result → ¬ IsShut owner.now.seen }
     ensures empty { IsTrue result → batch owner.now.seen ≡ [] }
@@ -51,7 +51,7 @@ pub(crate) fn may_take(owner: &Owner) -> bool
 }
 
 /// The queue drains, and all that was accepted has ended.
-#[tactic(auto, using(wq_live::proofs::Reading::reading))]
+#[tactic(auto, using(wq_calls::proofs::Reading::reading))]
 pub(crate) fn may_resume(owner: &Owner) -> bool
     ensures draining { IsTrue result → IsDraining owner.now.seen }
     ensures empty { IsTrue result → batch owner.now.seen ≡ [] }
@@ -61,7 +61,7 @@ pub(crate) fn may_resume(owner: &Owner) -> bool
 }
 
 /// A number waits, and nothing runs.
-#[tactic(auto, using(wq_live::proofs::Reading::reading))]
+#[tactic(auto, using(wq_calls::proofs::Reading::reading))]
 pub(crate) fn may_begin(owner: &Owner) -> bool
     ensures waits { IsTrue result → batch owner.now.seen ≢ [] }
     ensures rests { IsTrue result → ¬ IsRunning owner.now.seen }
@@ -76,7 +76,7 @@ pub(crate) fn may_begin(owner: &Owner) -> bool
 }
 
 /// An execution has begun and not ended.
-#[tactic(auto, using(wq_live::proofs::Reading::reading))]
+#[tactic(auto, using(wq_calls::proofs::Reading::reading))]
 pub(crate) fn may_end(owner: &Owner) -> bool
     ensures { IsTrue result → IsRunning owner.now.seen }
 {

@@ -4,7 +4,8 @@ use super::threads::{Parcel, make_parcel};
 use crate::expect::expect_same;
 use std::test::Fail;
 use std::thread::{Threads, join_mut};
-use wq_live::{Answer, ValueOwner, ValueSender, build_values};
+use wq_live::Answer;
+use wq_values::{ValueOwner, ValueSender, build_values};
 use wq_words::Layout;
 
 /// Queues the first item so often in one try each, with a parcel of this number, then of the next but one, and so on. How many

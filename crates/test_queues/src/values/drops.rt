@@ -5,7 +5,8 @@ use std::alloc::Global;
 use std::process::Abort;
 use std::sync::Arc;
 use std::test::Fail;
-use wq_live::{Answer, ValueOwner, ValueSender};
+use wq_live::Answer;
+use wq_values::{ValueOwner, ValueSender};
 
 /// One more value that shares this one, which counts them.
 pub(super) fn share<R: Abort>(rt: &R, shared: &Arc<u32>) -> Arc<u32> {

@@ -8,7 +8,8 @@ use std::sync::{Arc, Wait};
 use std::test::Fail;
 use std::thread::{Threads, join_mut, sleep};
 use std::time::{Clock, Duration};
-use wq_live::{Answer, ValueOwner, ValueSender};
+use wq_live::Answer;
+use wq_values::{ValueOwner, ValueSender};
 
 /// The items of the queue that is flushed, behind whose numbers its barrier's stands.
 const ITEMS: u32 = 16;

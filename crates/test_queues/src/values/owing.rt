@@ -13,8 +13,9 @@ use std::sync::atomic::Ordering::SeqCst;
 use std::sync::{Arc, Wait};
 use std::test::Fail;
 use std::thread::{Threads, join_mut};
-use wq_live::ValueSender;
-use wq_worker::{Ran, ValueFollow, ValueWork, ValueWorker};
+use wq_value_worker::{ValueFollow, ValueWork, ValueWorker};
+use wq_values::ValueSender;
+use wq_worker::Ran;
 
 /// What an item brings: a number, and a share in a value that counts its shares, which only the work's own pairs have.
 #[derive(Drop)]

@@ -4,7 +4,8 @@ ghost use Rattle.wq_words.specs.History.{IsShut, IsRunning};
 ghost use Rattle.wq_live.specs.Batch.{batch};
 
 use std::alloc::Global;
-use wq_live::{Answer, ValueAnswer, ValueOwner, ValueSender, build_values};
+use wq_live::Answer;
+use wq_values::{ValueAnswer, ValueOwner, ValueSender, build_values};
 use wq_words::Layout;
 
 /// The owner and the sender of a new queue of so many items and one barrier.
@@ -46,7 +47,7 @@ pub(crate) fn queue_once<V: Drop>(
 }
 
 /// The queue is open, and nothing that was taken waits.
-#[tactic(auto, using(wq_live::proofs::Reading::reading))]
+#[tactic(auto, using(wq_calls::proofs::Reading::reading))]
 fn may_take<V: Drop>(owner: &ValueOwner<V>) -> bool
     ensures open { IsTrue result → ¬ IsShut owner.now.known.seen }
     ensures empty { IsTrue result → batch owner.now.known.seen ≡ [] }
@@ -61,7 +62,7 @@ fn may_take<V: Drop>(owner: &ValueOwner<V>) -> bool
 }
 
 /// A number waits, and nothing runs.
-#[tactic(auto, using(wq_live::proofs::Reading::reading))]
+#[tactic(auto, using(wq_calls::proofs::Reading::reading))]
 fn may_begin<V: Drop>(owner: &ValueOwner<V>) -> bool
     ensures waits { IsTrue result → batch owner.now.known.seen ≢ [] }
     ensures rests { IsTrue result → ¬ IsRunning owner.now.known.seen }
@@ -76,7 +77,7 @@ fn may_begin<V: Drop>(owner: &ValueOwner<V>) -> bool
 }
 
 /// An execution has begun and not ended.
-#[tactic(auto, using(wq_live::proofs::Reading::reading))]
+#[tactic(auto, using(wq_calls::proofs::Reading::reading))]
 fn may_end<V: Drop>(owner: &ValueOwner<V>) -> bool
     ensures { IsTrue result → IsRunning owner.now.known.seen }
 {
@@ -87,7 +88,7 @@ fn may_end<V: Drop>(owner: &ValueOwner<V>) -> bool
 }
 
 /// The queue takes no push: it is closed, or drains.
-#[tactic(auto, using(wq_live::proofs::Reading::reading))]
+#[tactic(auto, using(wq_calls::proofs::Reading::reading))]
 fn is_shut<V: Drop>(owner: &ValueOwner<V>) -> bool
     ensures { IsTrue result → IsShut owner.now.known.seen }
 {
@@ -107,7 +108,7 @@ pub(crate) fn take<V: Drop>(owner: &mut ValueOwner<V>) -> Option<u32> {
 }
 
 /// Closes the queue, where it is not closed, and answers how many were taken.
-#[tactic(auto, using(wq_live::proofs::Reading::reading))]
+#[tactic(auto, using(wq_calls::proofs::Reading::reading))]
 pub(crate) fn close<V: Drop>(owner: &mut ValueOwner<V>) -> Option<u32> {
     if owner.is_closed() {
         return None;
@@ -116,7 +117,7 @@ pub(crate) fn close<V: Drop>(owner: &mut ValueOwner<V>) -> Option<u32> {
 }
 
 /// Begins a drain, where the queue is open, and answers how many were taken.
-#[tactic(auto, using(wq_live::proofs::Reading::reading))]
+#[tactic(auto, using(wq_calls::proofs::Reading::reading))]
 pub(crate) fn drain<V: Drop>(owner: &mut ValueOwner<V>) -> Option<u32> {
     if owner.is_closed() || owner.is_draining() {
         return None;
@@ -125,7 +126,7 @@ pub(crate) fn drain<V: Drop>(owner: &mut ValueOwner<V>) -> Option<u32> {
 }
 
 /// Ends a drain, where it has run out, and answers whether it has.
-#[tactic(auto, using(wq_live::proofs::Reading::reading))]
+#[tactic(auto, using(wq_calls::proofs::Reading::reading))]
 pub(crate) fn resume<V: Drop>(owner: &mut ValueOwner<V>) -> bool {
     if !owner.drained() {
         return false;

@@ -7,7 +7,8 @@ use crate::seats::{FIRST, QUEUED, WAKES};
 use std::alloc::Global;
 use std::process::Abort;
 use std::test::Fail;
-use wq_live::{Answer, ValueOwner, ValueSender};
+use wq_live::Answer;
+use wq_values::{ValueOwner, ValueSender};
 
 /// A string of its own.
 fn text<R: Abort>(rt: &R, alloc: Global, words: &str) -> String {

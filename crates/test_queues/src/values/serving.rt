@@ -11,8 +11,10 @@ use std::process::Abort;
 use std::sync::Wait;
 use std::test::Fail;
 use std::thread::{Threads, join_mut};
-use wq_live::{Answer, Spins, ValueAnswer, ValueSender};
-use wq_worker::{Totals, ValueFollow, ValueWork, ValueWorker};
+use wq_live::{Answer, Spins};
+use wq_value_worker::{ValueFollow, ValueWork, ValueWorker};
+use wq_values::{ValueAnswer, ValueSender};
+use wq_worker::Totals;
 
 /// How many items of its own each of two senders queues.
 const OWN: u32 = 64;

@@ -8,7 +8,8 @@ use std::process::Abort;
 use std::sync::{Arc, Wait};
 use std::thread::{Threads, join_mut, yield_now};
 use std::time::Clock;
-use wq_live::{Answer, ValueOwner, ValueSender, build_values};
+use wq_live::Answer;
+use wq_values::{ValueOwner, ValueSender, build_values};
 use wq_words::Layout;
 
 /// The items of a queue whose sender is contended.

@@ -8,9 +8,11 @@ use crate::seats::FIRST;
 use std::alloc::Global;
 use std::mem::replace;
 use std::process::Abort;
-use wq_live::{Answer, ValueSender};
+use wq_live::Answer;
+use wq_value_worker::{ValueBook, ValueFollow, ValueWork, ValueWorker};
+use wq_values::ValueSender;
 use wq_words::Layout;
-use wq_worker::{Drained, Ran, Totals, Unfinished, ValueBook, ValueFollow, ValueWork, ValueWorker};
+use wq_worker::{Drained, Ran, Totals, Unfinished};
 
 /// A work that asks for these pairs where item 0 ran, and keeps what it ran and what came back.
 #[derive(Drop)]

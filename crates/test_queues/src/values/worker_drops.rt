@@ -6,7 +6,8 @@ use std::alloc::Global;
 use std::process::Abort;
 use std::sync::Arc;
 use std::test::Fail;
-use wq_worker::{Ran, ValueFollow};
+use wq_value_worker::ValueFollow;
+use wq_worker::Ran;
 
 /// A work that asks for three pairs, of which the first's item is pending and the second's number is no item.
 fn three_pairs<R: Abort>(rt: &R, shared: &Arc<u32>) -> ValueFollow<Arc<u32>> {

@@ -13,7 +13,7 @@ returns-clause-access g c =
     let last = c.in_ok-pool.clients.last.access.known in let two : last.number ≡ 2 = search rules in let sized : last.layout ≡ c.args.layout = search rules in
     has_lines Access c.args.layout sent.first.access sent.second.access sent.access last c.args.first.items c.args.second.items sent.first.count
     sent.second.count w.access size e.legal e.complete e.text zero one two sized h.stops_access e.of_first e.of_second e.of_third
-    h.first_has.to_access h.second_has.to_access e.counts.0 e.counts.1
+    h.first_has.to_access h.second_has.to_access e.counts.0 e.counts.1 e.of_worker
 
 pub returns-clause-errors : goal.returns-clause-errors
 returns-clause-errors g c =
@@ -24,7 +24,7 @@ returns-clause-errors g c =
     let last = c.in_ok-pool.clients.last.errors.known in let two : last.number ≡ 2 = search rules in let sized : last.layout ≡ c.args.layout = search rules in
     has_lines Errors c.args.layout sent.first.errors sent.second.errors sent.errors last c.args.first.items c.args.second.items sent.first.count
     sent.second.count w.errors size e.legal e.complete e.text zero one two sized h.stops_errors e.of_first e.of_second e.of_third
-    h.first_has.to_errors h.second_has.to_errors e.counts.0 e.counts.1
+    h.first_has.to_errors h.second_has.to_errors e.counts.0 e.counts.1 e.of_worker
 
 pub returns-clause-all_of_first : goal.returns-clause-all_of_first
 returns-clause-all_of_first g c =

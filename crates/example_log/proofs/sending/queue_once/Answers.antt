@@ -1,5 +1,5 @@
 use Rattle.std.proofs.Common.{ap, ◌∙◌}
-use Rattle.wq_live.specs.OwnBrought.{own_brought}
+use Rattle.wq_values.specs.OwnBrought.{own_brought}
 use Rattle.example_log.proofs.sending.queue_once.Goals as goal
 
 pub returns-clause-brought : goal.returns-clause-brought

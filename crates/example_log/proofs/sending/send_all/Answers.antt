@@ -3,7 +3,7 @@ use Rattle.std.proofs.lemmas.List.{length-append}
 use Rattle.std.proofs.lemmas.Iterator.Adapters.{YieldsList-from_vec}
 use Rattle.std.proofs.lemmas.Iterator.Consumers.{YieldsList-end, YieldsList-turn}
 use Rattle.std.specs.Vec.Iter.{into_iter_items}
-use Rattle.wq_live.specs.Known.{IsSame}
+use Rattle.wq_values.specs.Known.{IsSame}
 use Rattle.example_log.specs.declared.sending.Client.{Client}
 use Rattle.example_log.specs.declared.message.Log.TheVariants.{Access, Errors}
 use Rattle.example_log.specs.Sent.{own_lines, lines_to, IsTurnedAway, SendsUnlessTurned, HasSent}

@@ -1,5 +1,5 @@
 use Rattle.std.specs.Prelude.{◌≡◌, ◌+◌, ◌<◌, ◌≤◌, Some, map, length}
-use Rattle.wq_live.specs.Known.{IsSame}
+use Rattle.wq_values.specs.Known.{IsSame}
 use Rattle.wq_ready.specs.Known.{IsCallerOf}
 use Rattle.example_log.specs.declared.message.Log.TheVariants.{Access, Errors}
 use Rattle.example_log.specs.Sent.{own_lines, lines_to}

@@ -1,7 +1,7 @@
 use Rattle.std.specs.Prelude.{◌≡◌, []}
 use Rattle.wq_words.specs.History.{accepted}
 use Rattle.wq_words.specs.Seen.{own}
-use Rattle.wq_live.specs.Known.{IsSame}
+use Rattle.wq_values.specs.Known.{IsSame}
 use Rattle.wq_ready.specs.Known.{IsCallerOf}
 use Rattle.example_log.proofs.sending.stop.Given as goal
 

@@ -1,8 +1,8 @@
 use Rattle.std.specs.Prelude.{◌≡◌}
 use Rattle.wq_words.specs.History.{accepted, IsRunning, IsClosed, IsShut}
 use Rattle.wq_words.specs.Seen.{own}
-use Rattle.wq_live.specs.Known.{IsSame}
-use Rattle.wq_live.specs.KnownWith.{handed_in}
+use Rattle.wq_values.specs.Known.{IsSame}
+use Rattle.wq_values.specs.KnownWith.{handed_in}
 use Rattle.example_values.specs.Messages.{numbers_of}
 use Rattle.example_values.proofs.executing.execute.Given as goal
 

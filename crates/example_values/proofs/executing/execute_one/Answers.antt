@@ -1,6 +1,6 @@
 use Rattle.std.proofs.Common.{ap, sym, ◌∙◌, ◌++◌, [], ◌∷◌}
 use Rattle.std.proofs.lemmas.List.Elements.{filter_map-append}
-use Rattle.wq_live.specs.KnownWith.{handed_in}
+use Rattle.wq_values.specs.KnownWith.{handed_in}
 use Rattle.example_values.specs.Messages.{number_in, numbers_of}
 use Rattle.example_values.proofs.executing.execute_one.Goals as goal
 

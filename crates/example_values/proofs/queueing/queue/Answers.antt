@@ -1,9 +1,9 @@
 use Rattle.std.proofs.Common.{◌≡◌, ap, refl, ◌∙◌, ◌++◌}
 use Rattle.std.specs.Prelude.{box_value}
 use Rattle.std.proofs.lemmas.List.Elements.{filter_map-append}
-use Rattle.wq_live.specs.declared.value_answer.ValueAnswer.{ValueAnswer}
-use Rattle.wq_live.specs.declared.value_answer.ValueAnswer.TheVariants as answer
-use Rattle.wq_live.specs.OwnBrought.{own_brought, queued_value}
+use Rattle.wq_values.specs.ValueAnswer.{ValueAnswer}
+use Rattle.wq_values.specs.ValueAnswer.TheVariants as answer
+use Rattle.wq_values.specs.OwnBrought.{own_brought, queued_value}
 use Rattle.example_values.specs.Messages.{Message, number_in, numbers_of, told_of}
 use Rattle.example_values.proofs.queueing.queue.Goals as goal
 

@@ -1,6 +1,6 @@
 use Rattle.std.specs.Prelude.{◌≡◌}
-use Rattle.wq_live.specs.Known.{IsSame}
-use Rattle.wq_live.specs.OwnBrought.{own_brought}
+use Rattle.wq_values.specs.Known.{IsSame}
+use Rattle.wq_values.specs.OwnBrought.{own_brought}
 use Rattle.example_values.specs.Messages.{numbers_of}
 use Rattle.example_values.proofs.queueing.queue_own.Given as goal
 

@@ -1,7 +1,7 @@
 use Rattle.std.proofs.Common.{ℕ, All, subst}
 use Rattle.wq_words.specs.History.{Holds}
 use Rattle.wq_live.specs.Known.{Known}
-use Rattle.wq_live.proofs.Seated.{all_last}
+use Rattle.wq_calls.proofs.Seated.{all_last}
 use Rattle.test_queues.proofs.seats.seats.Goals as goal
 
 abbrev HoldsNothing : Known → Type 0

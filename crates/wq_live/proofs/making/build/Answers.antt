@@ -1,7 +1,7 @@
 use Rattle.wq_live.proofs.Common.{◌≡◌, ℕ, [], length, refl, sym, ap, ◌∙◌, subst, All, ValueStanding, Bare, Known, new_senders, Holds}
-use Rattle.wq_live.specs.Known.{AreNumbered}
-use Rattle.wq_live.proofs.Built.{owner_new, senders_new}
-use Rattle.wq_live.proofs.Seated.{free_new, length-new_senders, all_new, numbered_new}
+use Rattle.wq_calls.specs.Known.{AreNumbered}
+use Rattle.wq_calls.proofs.Built.{owner_new, senders_new}
+use Rattle.wq_calls.proofs.Seated.{free_new, length-new_senders, all_new, numbered_new}
 use Rattle.wq_live.proofs.making.build.Goals as goal
 
 pub invariant_of-owner : goal.invariant_of-owner

@@ -4,7 +4,8 @@ use Rattle.std.proofs.Common.{Result, Ok, Err}
 use Rattle.std.specs.Result.{is_ok, is_err}
 use Rattle.std.proofs.lemmas.Iterator.Adapters.{YieldsList-from_vec}
 use Rattle.std.proofs.lemmas.Iterator.Consumers.{YieldsList-turn, YieldsList-end}
-use Rattle.wq_live.proofs.Built.{chair_at, chair_low, sender_of_none, view_new, new_senders-more, length-value_senders}
+use Rattle.wq_calls.proofs.Built.{chair_at, chair_low, view_new, new_senders-more, length-value_senders}
+use Rattle.wq_live.proofs.Made.{sender_of_none}
 use Rattle.wq_live.proofs.making.seat_senders.Goals as goal
 
 not_err : {T E : Type 0} (r : Result T E) → is_err r ≡ false → is_ok r ≡ true

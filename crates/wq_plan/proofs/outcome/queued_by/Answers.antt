@@ -1,5 +1,5 @@
 use Rattle.wq_plan.proofs.Common.{◌≡◌, ℕ, ◌+◌, ap, ◌∙◌, arith, fold_more, sender_counts, Known}
-use Rattle.wq_live.specs.declared.counts.SenderCounts.{SenderCounts}
+use Rattle.wq_calls.specs.declared.counts.SenderCounts.{SenderCounts}
 use Rattle.wq_plan.proofs.outcome.queued_by.Goals as goal
 
 pub loop-sender-preserved : goal.loop-sender-preserved

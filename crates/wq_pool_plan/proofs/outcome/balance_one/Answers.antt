@@ -1,5 +1,5 @@
 use Rattle.wq_pool_plan.proofs.Common.{◌≡◌, ℕ, ◌^◌, ◌<◌, ◌∙◌, sym, ap, subst, queued_sum}
-use Rattle.wq_live.specs.declared.counts.SenderCounts.{SenderCounts}
+use Rattle.wq_calls.specs.declared.counts.SenderCounts.{SenderCounts}
 use Rattle.wq_pool_plan.proofs.Done.{IsDone, few, run, is_run, tells_run}
 use Rattle.wq_pool_plan.proofs.outcome.balance_one.Goals as goal
 

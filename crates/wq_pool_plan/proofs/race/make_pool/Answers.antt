@@ -1,5 +1,5 @@
 use Rattle.wq_pool_plan.proofs.Common.{◌≡◌, ◌+◌, ◌-◌, length, vec_len, sym, ap, ◌∙◌, subst, arith, All, All-take, All-drop, IsCallerOf}
-use Rattle.wq_live.proofs.Seated.{all_last}
+use Rattle.wq_calls.proofs.Seated.{all_last}
 use Rattle.wq_ready.proofs.Callers.{length-new_callers}
 use Rattle.wq_pool_plan.proofs.race.make_pool.Goals as goal
 

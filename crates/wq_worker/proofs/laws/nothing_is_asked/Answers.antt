@@ -1,4 +1,4 @@
-use Rattle.wq_worker.proofs.Silent.{none_by_one, none_by_some, none_by_serving, none_by_draining, none_by_leaving, none_by_closing}
+use Rattle.wq_worker.proofs.Silent.{none_by_one, none_by_some, none_by_serving, none_by_draining, none_by_leaving, none_by_closing, none_along}
 use Rattle.wq_worker.proofs.laws.nothing_is_asked.Goals as goal
 
 pub returns-clause-one : goal.returns-clause-one
@@ -18,3 +18,6 @@ returns-clause-leaves g c = let k = g.K.Station in none_by_leaving k.may k.gives
 
 pub returns-clause-closes : goal.returns-clause-closes
 returns-clause-closes g c = let k = g.K.Station in none_by_closing k.may k.gives
+
+pub returns-clause-along : goal.returns-clause-along
+returns-clause-along g c = let k = g.K.Station in none_along k.may k.gives

@@ -1,5 +1,5 @@
 use Rattle.wq_worker.proofs.Common.{rules, ◌≡◌, None, [], ◌∷◌, ◌++◌, arith, Begin, next_of, pair_owner, pair_sender, taking}
-use Rattle.wq_live.proofs.Sends.{sees_on}
+use Rattle.wq_calls.proofs.Sends.{sees_on}
 use Rattle.wq_worker.proofs.Owned.{quiet_stays, owner_grows}
 use Rattle.wq_worker.proofs.Pair.{by_owner}
 use Rattle.wq_worker.proofs.State.{quiet_taking}

@@ -1,6 +1,6 @@
 use Rattle.wq_worker.proofs.Common.{Bool, true, false, Known, Sees, pair_owner, rest_events}
 use Rattle.wq_live.specs.Rest.{Rests}
-use Rattle.wq_live.proofs.Reading.{empty_from_next}
+use Rattle.wq_calls.proofs.Reading.{empty_from_next}
 use Rattle.wq_worker.proofs.Draining.{next_from_empty}
 use Rattle.wq_worker.proofs.Pair.{by_owner}
 use Rattle.wq_worker.proofs.steps.rest.Goals as goal

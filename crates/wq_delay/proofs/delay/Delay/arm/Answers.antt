@@ -1,6 +1,6 @@
 use Rattle.wq_words.specs.History.{accepted}
 use Rattle.wq_words.specs.Seen.{own}
-use Rattle.wq_live.proofs.Resting.{queued_accepted}
+use Rattle.wq_calls.proofs.Resting.{queued_accepted}
 use Rattle.wq_delay.proofs.Common.{◌≡◌, ℕ, ◌+◌, List, [], ◌∷◌, ◌++◌, refl, sym, ap, subst, ◌∙◌, Busy, on_table, DelayState}
 use Rattle.wq_delay.proofs.Sound.{fit_at, sound_queued, sound_keeps, sound_puts, off_before}
 use Rattle.wq_delay.proofs.OnTable.{placed_on, placed_others, queued_armed}

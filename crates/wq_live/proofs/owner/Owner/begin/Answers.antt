@@ -1,4 +1,4 @@
-use Rattle.wq_live.proofs.ValueSeats.{owner_alone}
+use Rattle.wq_live.proofs.Alone.{owner_alone}
 use Rattle.wq_live.proofs.owner.Owner.begin.Goals as goal
 
 pub invariant_of-self : goal.invariant_of-self

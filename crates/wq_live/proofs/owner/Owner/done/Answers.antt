@@ -1,5 +1,5 @@
 use Rattle.wq_live.proofs.Common.{sym, refl, ◌∙◌, false≢true, closed_shuts, owning}
-use Rattle.wq_live.proofs.Final.{final, owner_complete, owner_rested, owner_finished, closed_known, owner_all}
+use Rattle.wq_calls.proofs.Final.{final, owner_complete, owner_rested, owner_finished, closed_known, owner_all}
 use Rattle.wq_live.proofs.owner.Owner.done.Goals as goal
 use Rattle.wq_live.proofs.owner.Owner.done.Goals.{then-not-is_closed-via-then-not-is_closed}
 use Rattle.wq_live.proofs.owner.Owner.done.Goals.{then-not-is_closed-via-else-not-is_closed+then-self-ne0}

@@ -1,5 +1,5 @@
 use Rattle.wq_live.proofs.Common.{[], ◌∷◌, ap, ◌∙◌, subst, End, running, Known, Sees, owning, owner_view}
-use Rattle.wq_live.proofs.ValueSeats.{owner_alone}
+use Rattle.wq_live.proofs.Alone.{owner_alone}
 use Rattle.wq_live.proofs.owner.Owner.end.Goals as goal
 
 pub returns-clause-seen : goal.returns-clause-seen

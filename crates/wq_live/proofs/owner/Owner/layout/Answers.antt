@@ -1,5 +1,5 @@
 use Rattle.wq_live.proofs.Common.{subst, Layout, IsLegal, Known}
-use Rattle.wq_live.proofs.OwnerTells.{stands_legal}
+use Rattle.wq_calls.proofs.OwnerTells.{stands_legal}
 use Rattle.wq_live.proofs.owner.Owner.layout.Goals as goal
 
 pub returns-clause-legal : goal.returns-clause-legal

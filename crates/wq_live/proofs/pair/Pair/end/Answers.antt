@@ -1,5 +1,5 @@
 use Rattle.wq_live.proofs.Common.{[], ◌∷◌, ap, ◌∙◌, subst, End, running, Sees, owning, owner_view, KnownPair, pair_owner}
-use Rattle.wq_live.proofs.Paired.{sender_sees}
+use Rattle.wq_calls.proofs.InOneSeat.{sender_sees}
 use Rattle.wq_live.proofs.PlainPaired.{pair_acts}
 use Rattle.wq_live.proofs.pair.Pair.end.Goals as goal
 

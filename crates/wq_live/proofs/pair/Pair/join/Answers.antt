@@ -1,6 +1,6 @@
 use Rattle.wq_live.proofs.Common.{ap, ◌∙◌, TableId}
-use Rattle.wq_live.proofs.Paired.{joins, owner_joins, sender_joins, low_joins}
-use Rattle.wq_live.proofs.OwnerStays.{still_owned}
+use Rattle.wq_calls.proofs.InOneSeat.{joins, owner_joins, sender_joins, low_joins}
+use Rattle.wq_calls.proofs.OwnerStays.{still_owned}
 use Rattle.wq_live.proofs.Common.{Known, sym}
 use Rattle.wq_live.proofs.pair.Pair.join.Goals as goal
 

@@ -1,5 +1,5 @@
 use Rattle.wq_live.proofs.Common.{◌<◌, subst, Layout, IsLegal, KeepsHeadline, keeps_headline, KnownPair}
-use Rattle.wq_live.proofs.OwnerTells.{stands_legal}
+use Rattle.wq_calls.proofs.OwnerTells.{stands_legal}
 use Rattle.wq_live.proofs.pair.Pair.legal.Goals as goal
 
 pub returns-clause-legal : goal.returns-clause-legal

@@ -1,11 +1,11 @@
 use Rattle.wq_live.proofs.Common.{ap, sym, ◌∙◌, ValueStanding, learns_meet, Bare, sending_in, owning, pair_owner}
-use Rattle.wq_live.proofs.Meeting.{meet_owner_layout}
-use Rattle.wq_live.proofs.SenderAlone.{sender_met, sender_met_sees}
-use Rattle.wq_live.proofs.Paired.{seats_meet, owner_meets, sender_meets}
+use Rattle.wq_calls.proofs.Meeting.{meet_owner_layout}
+use Rattle.wq_live.proofs.Alone.{sender_met, sender_met_sees}
+use Rattle.wq_calls.proofs.InOneSeat.{seats_meet, owner_meets, sender_meets}
 use Rattle.wq_live.proofs.PlainPaired.{pair_after}
-use Rattle.wq_live.proofs.OwnerStays.{still_owned}
+use Rattle.wq_calls.proofs.OwnerStays.{still_owned}
 use Rattle.wq_live.proofs.Common.{refl}
-use Rattle.wq_live.proofs.Growing.{own_kept}
+use Rattle.wq_calls.proofs.Growing.{own_kept}
 use Rattle.wq_live.proofs.pair.Pair.meet.Goals as goal
 
 pub invariant_of-self : goal.invariant_of-self

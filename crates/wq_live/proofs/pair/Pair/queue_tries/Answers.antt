@@ -1,8 +1,8 @@
-use Rattle.wq_live.proofs.Tried.{answers_same}
-use Rattle.wq_live.proofs.SenderAlone.{queued_hand}
-use Rattle.wq_live.proofs.Paired.{owner_looks}
+use Rattle.wq_calls.proofs.Tried.{answers_same}
+use Rattle.wq_calls.proofs.SenderHands.{queued_hand}
+use Rattle.wq_calls.proofs.InOneSeat.{owner_looks}
 use Rattle.wq_live.proofs.PlainPaired.{pair_queues}
-use Rattle.wq_live.proofs.OwnerStays.{still_owned}
+use Rattle.wq_calls.proofs.OwnerStays.{still_owned}
 use Rattle.wq_live.proofs.Common.{refl, pair_owner}
 use Rattle.wq_live.proofs.pair.Pair.queue_tries.Goals as goal
 

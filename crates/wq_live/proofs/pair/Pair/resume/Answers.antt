@@ -1,4 +1,4 @@
-use Rattle.wq_live.proofs.Paired.{sender_sees}
+use Rattle.wq_calls.proofs.InOneSeat.{sender_sees}
 use Rattle.wq_live.proofs.PlainPaired.{pair_acts}
 use Rattle.wq_live.proofs.pair.Pair.resume.Goals as goal
 

@@ -1,9 +1,9 @@
 use Rattle.wq_live.proofs.Common.{arith, ◌≡◌, ◌∙◌, ℕ, [], ◌∷◌, ap, subst, barrier_number, Hold, Push, Known, Sees, IsPushed}
-use Rattle.wq_live.proofs.Sends.{sees_on, queued_on}
-use Rattle.wq_live.proofs.Held.{queued_held}
-use Rattle.wq_live.proofs.Flushed.{flushed_all}
+use Rattle.wq_calls.proofs.Sends.{sees_on, queued_on}
+use Rattle.wq_calls.proofs.Held.{queued_held}
+use Rattle.wq_calls.proofs.Flushed.{flushed_all}
 use Rattle.wq_live.proofs.Common.{Layout}
-use Rattle.wq_live.specs.Answers.{HasFlushed}
+use Rattle.wq_calls.specs.Answers.{HasFlushed}
 use Rattle.wq_words.specs.declared.answer.Answer.TheVariants.{Queued}
 use Rattle.wq_live.proofs.sender.Sender.flush.Goals as goal
 

@@ -1,6 +1,6 @@
 use Rattle.wq_live.proofs.Common.{◌≡◌, ℕ, refl, not, Bool, true, false, ap, sym, ◌∙◌, barrier_number, pending, Known}
-use Rattle.wq_live.proofs.Flushed.{flushed}
-use Rattle.wq_live.proofs.Sends.{sees_held}
+use Rattle.wq_calls.proofs.Flushed.{flushed}
+use Rattle.wq_calls.proofs.Sends.{sees_held}
 use Rattle.wq_live.proofs.sender.Sender.flush_done.Goals as goal
 
 number_is : (c : goal.After-is_number_pending) → c.barrier-number.result ≡ barrier_number c.args.self.now.layout c.args.barrier

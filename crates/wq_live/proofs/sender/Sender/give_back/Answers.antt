@@ -1,11 +1,11 @@
 use Rattle.wq_live.proofs.Common.{refl, [], ◌∷◌, Back, learns_step, sending_in}
 use Rattle.wq_words.specs.declared.event.Why.TheVariants.{Cancelled}
-use Rattle.wq_live.proofs.SenderAlone.{sender_alone}
-use Rattle.wq_live.proofs.Counting.{counts_cancelled}
-use Rattle.wq_live.proofs.Tells.{Tells, back_tells, sender_made}
-use Rattle.wq_live.proofs.Held.{given_held, given_unheld, given_stops}
-use Rattle.wq_live.proofs.Sends.{grows_tells, sends_tells, sees_tells, holds_view}
-use Rattle.wq_live.proofs.Resting.{accepted_still}
+use Rattle.wq_live.proofs.Alone.{sender_alone}
+use Rattle.wq_calls.proofs.Counting.{counts_cancelled}
+use Rattle.wq_calls.proofs.Tells.{Tells, back_tells, sender_made}
+use Rattle.wq_calls.proofs.Held.{given_held, given_unheld, given_stops}
+use Rattle.wq_calls.proofs.Sends.{grows_tells, sends_tells, sees_tells, holds_view}
+use Rattle.wq_calls.proofs.Resting.{accepted_still}
 use Rattle.wq_live.proofs.sender.Sender.give_back.Goals as goal
 
 pub back_cancelled-requires-clause-held : goal.back_cancelled-requires-clause-held

@@ -1,6 +1,6 @@
-use Rattle.wq_live.proofs.Held.{tested_held, tested_unheld, hold_refused}
-use Rattle.wq_live.proofs.Resting.{accepted_tested}
-use Rattle.wq_live.proofs.Sends.{hold_held}
+use Rattle.wq_calls.proofs.Held.{tested_held, tested_unheld, hold_refused}
+use Rattle.wq_calls.proofs.Resting.{accepted_tested}
+use Rattle.wq_calls.proofs.Sends.{hold_held}
 use Rattle.wq_live.proofs.sender.Sender.hold.Goals as goal
 
 pub returns-clause-held : goal.returns-clause-held

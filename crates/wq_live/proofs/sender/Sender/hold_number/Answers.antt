@@ -1,4 +1,4 @@
-use Rattle.wq_live.proofs.SenderAlone.{held_bare, sender_alone}
+use Rattle.wq_live.proofs.Alone.{held_bare, sender_alone}
 use Rattle.wq_live.proofs.sender.Sender.hold_number.Goals as goal
 
 pub invariant_of-self : goal.invariant_of-self

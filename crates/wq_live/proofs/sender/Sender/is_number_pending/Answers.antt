@@ -1,9 +1,9 @@
 use Rattle.wq_live.proofs.Common.{refl, ◌≡◌, ◌<◌, not, Bool, true, false, [], ap, sym, subst, ◌∙◌, Layout, number_count, Known, learns_step}
 use Rattle.wq_live.proofs.Common.{sending_in}
-use Rattle.wq_live.proofs.SenderAlone.{sender_alone}
-use Rattle.wq_live.proofs.Counting.{counts_none}
-use Rattle.wq_live.proofs.Tells.{Tells, check_tells, sender_made}
-use Rattle.wq_live.proofs.Sends.{grows_tells, sends_tells, sees_tells}
+use Rattle.wq_live.proofs.Alone.{sender_alone}
+use Rattle.wq_calls.proofs.Counting.{counts_none}
+use Rattle.wq_calls.proofs.Tells.{Tells, check_tells, sender_made}
+use Rattle.wq_calls.proofs.Sends.{grows_tells, sends_tells, sees_tells}
 use Rattle.wq_live.proofs.sender.Sender.is_number_pending.Goals as goal
 
 pub invariant_of-self : goal.invariant_of-self

@@ -1,4 +1,4 @@
-use Rattle.wq_live.proofs.Sends.{sees_held}
+use Rattle.wq_calls.proofs.Sends.{sees_held}
 use Rattle.wq_live.proofs.sender.Sender.is_pending.Goals as goal
 
 pub returns-clause-keeps : goal.returns-clause-keeps

@@ -1,5 +1,5 @@
 use Rattle.wq_live.proofs.Common.{subst, IsLegal, KeepsHeadline, keeps_headline, Known, sending_in}
-use Rattle.wq_live.proofs.Sends.{sender_low}
+use Rattle.wq_calls.proofs.Sends.{sender_low}
 use Rattle.wq_live.proofs.sender.Sender.legal.Goals as goal
 
 pub returns-clause-legal : goal.returns-clause-legal

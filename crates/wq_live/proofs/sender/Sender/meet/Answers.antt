@@ -1,8 +1,8 @@
 use Rattle.wq_live.proofs.Common.{ap, sym, ◌∙◌, ValueStanding, Bare, sending_in}
-use Rattle.wq_live.proofs.SenderAlone.{sender_met, sender_met_sees}
-use Rattle.wq_live.proofs.Sends.{meet_layout}
-use Rattle.wq_live.proofs.Sends.{sees_held}
-use Rattle.wq_live.proofs.Growing.{own_kept}
+use Rattle.wq_live.proofs.Alone.{sender_met, sender_met_sees}
+use Rattle.wq_calls.proofs.Sends.{meet_layout}
+use Rattle.wq_calls.proofs.Sends.{sees_held}
+use Rattle.wq_calls.proofs.Growing.{own_kept}
 use Rattle.wq_live.proofs.sender.Sender.meet.Goals as goal
 
 pub invariant_of-self : goal.invariant_of-self

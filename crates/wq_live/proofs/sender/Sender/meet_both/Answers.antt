@@ -1,12 +1,12 @@
 use Rattle.wq_live.proofs.Common.{[], ap, sym, ◌∙◌, ValueStanding, Bare, sending_in, owning}
-use Rattle.wq_live.proofs.SenderAlone.{sender_met, sender_met_sees, owner_met, owner_met_sees}
-use Rattle.wq_live.proofs.Resting.{complete_stays}
-use Rattle.wq_live.proofs.Sends.{meet_layout}
-use Rattle.wq_live.proofs.Meeting.{meet_owner_layout}
-use Rattle.wq_live.proofs.Sends.{sees_held}
-use Rattle.wq_live.proofs.OwnerStays.{still_owned}
+use Rattle.wq_live.proofs.Alone.{sender_met, sender_met_sees, owner_met, owner_met_sees}
+use Rattle.wq_calls.proofs.Resting.{complete_stays}
+use Rattle.wq_calls.proofs.Sends.{meet_layout}
+use Rattle.wq_calls.proofs.Meeting.{meet_owner_layout}
+use Rattle.wq_calls.proofs.Sends.{sees_held}
+use Rattle.wq_calls.proofs.OwnerStays.{still_owned}
 use Rattle.wq_live.proofs.Common.{Known}
-use Rattle.wq_live.proofs.Growing.{own_kept}
+use Rattle.wq_calls.proofs.Growing.{own_kept}
 use Rattle.wq_live.proofs.sender.Sender.meet_both.Goals as goal
 
 pub meet_both-requires-clause-empty : goal.meet_both-requires-clause-empty

@@ -1,4 +1,4 @@
-use Rattle.wq_live.proofs.Held.{contended_held, draining_held, posted_held, posted_stops, posted_unheld}
+use Rattle.wq_calls.proofs.Held.{contended_held, draining_held, posted_held, posted_stops, posted_unheld}
 use Rattle.wq_live.proofs.sender.Sender.post.Goals as goal
 
 pub returns-clause-held : goal.returns-clause-held

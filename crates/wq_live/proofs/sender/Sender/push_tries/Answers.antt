@@ -1,9 +1,9 @@
 use Rattle.wq_live.proofs.Common.{[], subst, ◌∙◌, learns_on, Posts, Known, Sees, sending_in, sender_view}
 use Rattle.wq_words.specs.declared.answer.Posted.TheVariants.{Closed}
-use Rattle.wq_live.proofs.SenderAlone.{posted_bare, sender_alone}
-use Rattle.wq_live.proofs.Sends.{sees_held}
-use Rattle.wq_live.proofs.Settled.{closed_settled}
-use Rattle.wq_live.proofs.ValueSeats.{learns_slots}
+use Rattle.wq_live.proofs.Alone.{posted_bare, sender_alone}
+use Rattle.wq_calls.proofs.Sends.{sees_held}
+use Rattle.wq_calls.proofs.Settled.{closed_settled}
+use Rattle.wq_calls.proofs.ValueSeats.{learns_slots}
 use Rattle.wq_live.proofs.sender.Sender.push_tries.Goals as goal
 
 pub find_closed-requires-clause-held : goal.find_closed-requires-clause-held

@@ -1,6 +1,7 @@
 use Rattle.std.specs.Prelude.{None}
-use Rattle.wq_live.proofs.SenderAlone.{queued_hand, sender_alone}
-use Rattle.wq_live.proofs.Held.{queued_held}
+use Rattle.wq_calls.proofs.SenderHands.{queued_hand}
+use Rattle.wq_live.proofs.Alone.{sender_alone}
+use Rattle.wq_calls.proofs.Held.{queued_held}
 use Rattle.wq_live.proofs.Common.{Known, subst, Answers, sender_view, sending_in}
 use Rattle.wq_live.proofs.sender.Sender.queue_number.Goals as goal
 

@@ -2,7 +2,7 @@ use Rattle.std.proofs.Common.{◌≡◌, ℕ, [], length, sym, ap, ◌∙◌, su
 use Rattle.std.specs.Prelude.{All}
 use Rattle.wq_words.specs.History.{Holds}
 use Rattle.wq_live.specs.Known.{QueueId, Known, new_senders, AreNumbered}
-use Rattle.wq_live.proofs.Seated.{one_less, all_front, all_last, numbered_front}
+use Rattle.wq_calls.proofs.Seated.{one_less, all_front, all_last, numbered_front}
 use Rattle.wq_worker.proofs.Joined.{made_new, made_open}
 use Rattle.wq_worker.proofs.worker.Worker.build.Goals as goal
 

@@ -1,6 +1,9 @@
 use Rattle.wq_worker.proofs.Common.{[], ◌∷◌, sym, refl, ◌∙◌, subst, drop, Drain, IsShut, IsShut_from_shut, open_from_shut, KnownPair, Both}
 use Rattle.wq_worker.proofs.Common.{WorkerState, Shuts, drains}
 use Rattle.wq_worker.specs.Rows.{was_shut}
+use Rattle.wq_worker.specs.Step.{stays}
+use Rattle.wq_worker.specs.Works.{a_drain, WorksInStep, keeps}
+use Rattle.wq_worker.proofs.Works.{works_still}
 use Rattle.wq_worker.proofs.Pair.{by_owner}
 use Rattle.wq_worker.proofs.State.{fit_both}
 use Rattle.wq_worker.proofs.Step.{state_of, moves_by}
@@ -20,7 +23,13 @@ returns-then-is_shut g c =
     let o : KnownPair = c.self.inside.pair in
     let is : IsShut o.seen = IsShut_from_shut o.seen (sym c.is_shut.ensures ∙ c.if-is_shut.true) in
     let now : IsShut c.args.self.now.seen = subst (λ (w : WorkerState g.row.W.Denot). IsShut w.seen) c.self.view_is is in
-    record { shuts = was_shut now refl; shut = now; deals = tt }
+    let i = c.self.inside in let a : WorkerState g.row.W.Denot = state_of i.pair i.tries (drop i.at i.follow.items) i.work in
+    record {
+      shuts = was_shut now refl;
+      shut = now;
+      deals = subst (λ (z : WorkerState g.row.W.Denot). WorksInStep g.W.Work.may z z) c.self.view_is
+          (works_still g.W.Work.may stays a c.self.invariant.legal);
+    }
 
 pub returns : goal.returns
 returns g c =
@@ -33,5 +42,6 @@ returns g c =
       shuts = subst (λ (z : WorkerState g.row.W.Denot). Shuts z w) c.self.view_is
           (drains opens (moves_by (Drain ∷ []) 0 i.tries left left i.work i.work o q b) refl refl);
       shut = e.shut;
-      deals = tt;
+      deals = subst (λ (z : WorkerState g.row.W.Denot). WorksInStep g.W.Work.may z w) c.self.view_is
+          (keeps (Drain ∷ []) a_drain (moves_by (Drain ∷ []) 0 i.tries left left i.work i.work o q b) (refl, refl));
     }

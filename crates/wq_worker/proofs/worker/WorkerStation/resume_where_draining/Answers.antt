@@ -1,10 +1,13 @@
 use Rattle.wq_worker.proofs.Common.{rules, [], ◌∷◌, sym, refl, ap, subst, drop, Resume, IsDraining, HasRunOut, IsLegal, KnownPair, Both, WorkerState, Resumes}
 use Rattle.wq_worker.proofs.Common.{stays_closed, reopens}
+use Rattle.wq_worker.specs.Step.{stays}
+use Rattle.wq_worker.specs.Works.{a_resume, WorksInStep, keeps}
 use Rattle.wq_worker.proofs.Draining.{none_left, next_from_empty}
 use Rattle.wq_worker.proofs.Pair.{by_owner}
 use Rattle.wq_worker.proofs.Phase.{closed_else}
 use Rattle.wq_worker.proofs.State.{fit_both}
 use Rattle.wq_worker.proofs.Step.{state_of, moves_by}
+use Rattle.wq_worker.proofs.Works.{works_still}
 use Rattle.wq_worker.proofs.worker.WorkerStation.resume_where_draining.Goals as goal
 
 pub resume-requires : goal.resume-requires
@@ -31,7 +34,8 @@ returns-then-is_draining g c =
       resumes = subst (λ (z : WorkerState g.row.W.Denot). Resumes z w) c.self.view_is
           (reopens is (moves_by (Resume ∷ []) 0 i.tries left left i.work i.work o q b) refl refl);
       none = (e.idle, next_from_empty q.seen e.empty);
-      deals = tt;
+      deals = subst (λ (z : WorkerState g.row.W.Denot). WorksInStep g.W.Work.may z w) c.self.view_is
+          (keeps (Resume ∷ []) a_resume (moves_by (Resume ∷ []) 0 i.tries left left i.work i.work o q b) (refl, refl));
     }
 
 pub returns-else-is_draining : goal.returns-else-is_draining
@@ -44,5 +48,5 @@ returns-else-is_draining g c =
     record {
       resumes = stays_closed (closed_else c.args.self.now.seen c.requires.0 here) refl;
       none = (left.1, next_from_empty c.args.self.now.seen left.0);
-      deals = tt;
+      deals = works_still g.W.Work.may stays c.args.self.now legal;
     }

@@ -1,0 +1,39 @@
+use Rattle.wq_calls.proofs.Valuing.{put_ready, put_tried, put_settled}
+use Rattle.wq_calls.proofs.valued.queue_value.Goals as goal
+
+pub try_tries-posted-requires : goal.try_tries-posted-requires
+try_tries-posted-requires g c = let at = g.P.Place.at in let held = c.if-not-hold_number.ensures in
+    let put = put_ready at c.args.item c.args.value c.exchange.result c.args.chair.now c.hold_number.new.chair c.exchange.new.self c.args.sent.now
+    c.hold_number.new.sent c.requires.slots c.requires.item held.seen held.slots held.sends held.learns c.exchange.ensures.exchanged in
+    record { sends = put.0; number = put.1; held = put.2; slot = put.3 }
+
+pub settle_value-requires : goal.settle_value-requires
+settle_value-requires g c = let at = g.P.Place.at in let held = c.if-not-hold_number.ensures in let tried = c.try_tries-posted.ensures in
+    let put = put_tried at c.args.item c.args.value c.exchange.result c.args.chair.now c.hold_number.new.chair c.exchange.new.self c.args.sent.now
+    c.hold_number.new.sent c.requires.slots c.requires.item held.seen held.slots held.sends held.learns c.exchange.ensures.exchanged
+    c.try_tries-posted.new.chair c.try_tries-posted.new.sent c.args.tries c.try_tries-posted.result tried.posts tried.learns tried.slots in
+    record {
+      sends = tried.sends;
+      item = put.0;
+      held = put.1;
+      sees_closed = tried.sees_closed;
+      sees = tried.sees;
+      slots = put.2;
+      filled = put.3;
+    }
+
+pub returns : goal.returns
+returns g c = let at = g.P.Place.at in let held = c.if-not-hold_number.ensures in let tried = c.try_tries-posted.ensures in
+    let settled = c.settle_value.ensures in
+    let put = put_settled at c.args.item c.args.value c.exchange.result c.args.chair.now c.hold_number.new.chair c.exchange.new.self c.args.sent.now
+    c.hold_number.new.sent c.requires.slots c.requires.item held.seen held.slots held.sends held.learns c.exchange.ensures.exchanged
+    c.try_tries-posted.new.chair c.try_tries-posted.new.sent c.args.tries c.try_tries-posted.result tried.posts tried.learns tried.slots
+    c.settle_value.new.chair c.settle_value.new.sent c.settle_value.result settled.sends settled.settles settled.value settled.learns in
+    record {
+      sends = settled.sends;
+      learns = put.0;
+      answer = put.1;
+      contended = put.2;
+      value = put.3;
+      hand = put.4;
+    }

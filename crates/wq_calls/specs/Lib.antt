@@ -1,0 +1,15 @@
+pub mod Known
+pub mod Batch
+pub mod Row
+pub mod Counts
+pub mod Answers
+pub mod Tells
+pub mod Tries
+pub mod Rest
+pub mod Laws
+pub mod Sits
+pub mod Hands
+pub mod Pairs
+pub mod KnownWith
+pub mod OwnBrought
+pub mod Valued

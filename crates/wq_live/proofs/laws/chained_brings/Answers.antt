@@ -1,5 +1,0 @@
-use Rattle.wq_live.proofs.OwnBrought.{chained_own}
-use Rattle.wq_live.proofs.laws.chained_brings.Goals as goal
-
-pub returns : goal.returns
-returns g c = record { grows = chained_own }

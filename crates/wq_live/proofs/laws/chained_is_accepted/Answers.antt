@@ -1,5 +1,0 @@
-use Rattle.wq_live.proofs.Resting.{chained_accepted}
-use Rattle.wq_live.proofs.laws.chained_is_accepted.Goals as goal
-
-pub returns : goal.returns
-returns c = record { grows = chained_accepted }

@@ -1,5 +1,0 @@
-use Rattle.wq_live.proofs.OwnerStays.{sender_counted, owner_counted}
-use Rattle.wq_live.proofs.laws.counts_stay.Goals as goal
-
-pub returns : goal.returns
-returns c = record { sender = sender_counted; owner = owner_counted }

@@ -1,5 +1,0 @@
-use Rattle.wq_live.proofs.OwnerStays.{begun_grows, ended_grows, still_running}
-use Rattle.wq_live.proofs.laws.executions_grow.Goals as goal
-
-pub returns : goal.returns
-returns c = record { begun = begun_grows; ended = ended_grows; running = still_running }

@@ -1,6 +1,0 @@
-use Rattle.wq_live.proofs.Sends.{sees_held}
-use Rattle.wq_live.proofs.Held.{tested_held, queued_held, posted_held, given_held}
-use Rattle.wq_live.proofs.laws.held_stays.Goals as goal
-
-pub returns : goal.returns
-returns c = record { seen = sees_held; held = tested_held; queued = queued_held; posted = posted_held; given = given_held }

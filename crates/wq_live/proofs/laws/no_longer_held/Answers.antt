@@ -1,5 +1,0 @@
-use Rattle.wq_live.proofs.Held.{posted_stops, queued_stops, given_stops}
-use Rattle.wq_live.proofs.laws.no_longer_held.Goals as goal
-
-pub returns : goal.returns
-returns c = record { posted = posted_stops; queued = queued_stops; given = given_stops }

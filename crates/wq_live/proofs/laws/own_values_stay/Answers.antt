@@ -1,5 +1,0 @@
-use Rattle.wq_live.proofs.OwnBrought.{own_stays}
-use Rattle.wq_live.proofs.laws.own_values_stay.Goals as goal
-
-pub returns : goal.returns
-returns g c = record { same = own_stays }

@@ -1,5 +1,0 @@
-use Rattle.wq_live.proofs.OwnerStays.{still_owned, shut_end}
-use Rattle.wq_live.proofs.laws.owner_stays.Goals as goal
-
-pub returns : goal.returns
-returns c = record { owned = still_owned; shut = shut_end }

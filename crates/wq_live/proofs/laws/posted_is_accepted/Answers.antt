@@ -1,5 +1,0 @@
-use Rattle.wq_live.proofs.Resting.{posted_accepted}
-use Rattle.wq_live.proofs.laws.posted_is_accepted.Goals as goal
-
-pub returns : goal.returns
-returns c = record { grows = posted_accepted }

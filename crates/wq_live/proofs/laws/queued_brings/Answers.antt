@@ -1,5 +1,0 @@
-use Rattle.wq_live.proofs.OwnBrought.{brings_own}
-use Rattle.wq_live.proofs.laws.queued_brings.Goals as goal
-
-pub returns : goal.returns
-returns g c = record { grows = brings_own }

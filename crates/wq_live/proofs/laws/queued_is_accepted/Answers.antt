@@ -1,5 +1,0 @@
-use Rattle.wq_live.proofs.Resting.{queued_accepted}
-use Rattle.wq_live.proofs.laws.queued_is_accepted.Goals as goal
-
-pub returns : goal.returns
-returns c = record { grows = queued_accepted }

@@ -1,0 +1,13 @@
+pub mod Common
+pub mod ValueState
+pub mod ValueStep
+pub mod Returned
+pub mod Deals
+pub mod Dealt
+pub mod Settling
+pub mod Logged
+pub mod Begun
+pub mod Finishing
+pub mod ValueBooks
+pub mod ValueGoing
+pub mod ValueJoined

@@ -1,0 +1,7 @@
+use Rattle.wq_value_worker.proofs.Common.{[], ◌∷◌, Close}
+use Rattle.wq_worker.specs.Works.{a_close}
+use Rattle.wq_value_worker.specs.Deals.{keeps}
+use Rattle.wq_value_worker.proofs.value_worker.ValueWorkerStation.close.Goals as goal
+
+pub returns-clause-deals : goal.returns-clause-deals
+returns-clause-deals g c = let e = c.close.ensures in keeps (Close ∷ []) a_close e.events e.work e.pairs e.learnt

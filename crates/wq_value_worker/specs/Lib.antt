@@ -1,0 +1,22 @@
+pub mod Asked
+pub mod Returned
+pub mod ValueState
+pub mod Deals
+pub mod Dealt
+pub mod ValueBook
+-- what its public clauses cite of the crates below, so that a caller names this crate alone
+pub use Rattle.wq_words.specs.History
+pub use Rattle.wq_words.specs.Legal
+pub use Rattle.wq_words.specs.Headline
+pub use Rattle.wq_words.specs.Numbers
+pub use Rattle.wq_words.specs.Seen
+pub use Rattle.wq_words.specs.Valued
+pub use Rattle.wq_values.specs.Known
+pub use Rattle.wq_values.specs.Laws
+pub use Rattle.wq_values.specs.KnownWith
+pub use Rattle.wq_values.specs.OwnBrought
+pub use Rattle.wq_ledger.specs.Book
+pub use Rattle.wq_worker.specs.State
+pub use Rattle.wq_worker.specs.Step
+pub use Rattle.wq_worker.specs.Rows
+pub use Rattle.wq_worker.specs.Destroy

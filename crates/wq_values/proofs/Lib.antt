@@ -1,0 +1,5 @@
+pub mod Common
+pub mod Alone
+pub mod Made
+pub mod ValueSends
+pub mod ValuePaired

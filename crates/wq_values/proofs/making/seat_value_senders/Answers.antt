@@ -1,0 +1,69 @@
+use Rattle.wq_values.proofs.Common.{◌≡◌, ℕ, Bool, true, false, List, [], ◌∷◌, ◌++◌, length, map, if◌then◌else◌, ap, sym, refl, ◌∙◌, arith}
+use Rattle.wq_values.proofs.Common.{length-append, false≢true, ValueStanding, new_senders, knowing_nothing, sender_with}
+use Rattle.std.proofs.Common.{Result, Ok, Err}
+use Rattle.std.specs.Result.{is_ok, is_err}
+use Rattle.std.proofs.lemmas.Iterator.Adapters.{YieldsList-from_vec}
+use Rattle.std.proofs.lemmas.Iterator.Consumers.{YieldsList-turn, YieldsList-end}
+use Rattle.wq_calls.proofs.Built.{chair_at, chair_low, with_new, values-more, length-value_senders}
+use Rattle.wq_values.proofs.Made.{sender_of_values}
+use Rattle.wq_values.proofs.making.seat_value_senders.Goals as goal
+
+not_err : {T E : Type 0} (r : Result T E) → is_err r ≡ false → is_ok r ≡ true
+not_err (Ok x) e = refl
+not_err (Err y) e = absurd (false≢true (sym e))
+
+pub invariant_of-sender : goal.invariant_of-sender
+invariant_of-sender g c = let h = c.into_iter-chair-iterator.ensures.into_iter_gives in
+    let turn = YieldsList-turn
+    (YieldsList-from_vec {s = c.into_iter-chair-iterator.result} c.args.seats.items h.0 (h.1 ∙ c.args.seats.ok.0)) c.loop-chair.yielded
+    c.loop-chair.chair-iterator c.loop-chair.yielded_by c.next.result c.next.new.self c.in-Some.chair c.in-Some.is c.next.ensures.steps in
+    let q = c.requires.seats.0 in
+    let is = chair_at q c.args.layout c.args.layout.senders c.args.seats.items
+    (length c.loop-chair.yielded) c.loop-chair.number c.in-Some.chair c.requires.seats.2 c.loop-chair.invariant.0 turn in
+    sender_of_values q c.args.layout c.loop-chair.number c.in-Some.chair c.new.result is c.new.ensures
+    (chair_low q c.args.layout c.args.seats.items (length c.loop-chair.yielded) c.loop-chair.number c.in-Some.chair c.requires.seats.2
+    c.loop-chair.invariant.0 turn) c.requires.seats.1
+
+pub overflow_add-number : goal.overflow_add-number
+overflow_add-number g c = let h = c.into_iter-chair-iterator.ensures.into_iter_gives in
+    let turn = YieldsList-turn
+    (YieldsList-from_vec {s = c.into_iter-chair-iterator.result} c.args.seats.items h.0 (h.1 ∙ c.args.seats.ok.0)) c.loop-chair.yielded
+    c.loop-chair.chair-iterator c.loop-chair.yielded_by c.next.result c.next.new.self c.in-Some.chair c.in-Some.is c.next.ensures.steps in
+    let few = c.args.layout.in_limits.2.1 in
+    omega (
+      arith,
+      few,
+      turn.0,
+      c.loop-chair.invariant.0,
+      ap (λ (xs : List (ValueStanding g.row.V.Denot)). length xs) c.requires.seats.2,
+      length-value_senders g.row.V.Denot c.requires.seats.0 c.args.layout c.args.layout.senders,
+    )
+
+pub loop-chair-preserved : goal.loop-chair-preserved
+loop-chair-preserved g c = let h = c.into_iter-chair-iterator.ensures.into_iter_gives in let l = c.loop-chair in
+    let turn = YieldsList-turn
+    (YieldsList-from_vec {s = c.into_iter-chair-iterator.result} c.args.seats.items h.0 (h.1 ∙ c.args.seats.ok.0)) l.yielded l.chair-iterator
+    l.yielded_by c.next.result c.next.new.self c.in-Some.chair c.in-Some.is c.next.ensures.steps in
+    let failed = c.is_err.ensures.value in let no : c.is_err.result ≡ false = c.if-is_err.false in
+    let ok : is_ok c.push.result ≡ true = not_err c.push.result (sym failed ∙ no) in (
+      omega (arith, l.invariant.0, length-append l.yielded (c.in-Some.chair ∷ [])),
+      λ q is. let view = with_new q c.args.layout l.number c.in-Some.chair c.new.result
+          (chair_at q c.args.layout c.args.layout.senders c.args.seats.items (length l.yielded) l.number c.in-Some.chair is l.invariant.0 turn)
+          c.new.ensures in
+          c.push.ensures.items ∙
+          (ap (λ (b : Bool). if b then l.senders.items ++ sender_with 0 c.in-Some.chair c.new.result ∷ [] else l.senders.items) ok ∙
+          ((λ i. l.invariant.1 q is i ++ view i ∷ []) ∙ values-more g.row.V.Denot q c.args.layout l.number)),
+    )
+
+pub returns : goal.returns
+returns g c = let h = c.into_iter-chair-iterator.ensures.into_iter_gives in let l = c.loop-chair in
+    let all = YieldsList-end (YieldsList-from_vec {s = c.into_iter-chair-iterator.result} c.args.seats.items h.0 (h.1 ∙ c.args.seats.ok.0)) l.yielded
+    l.chair-iterator l.yielded_by c.next.result c.next.new.self c.in-None.is c.next.ensures.steps in
+    λ q is. let count : l.number ≡ c.args.layout.senders = omega (
+      arith,
+      l.invariant.0,
+      ap (λ (xs : List (ValueStanding g.row.V.Denot)). length xs) is,
+      length-value_senders g.row.V.Denot q c.args.layout c.args.layout.senders,
+      all.1,
+    ) in
+    l.invariant.1 q is ∙ ap (λ (n : ℕ). map knowing_nothing (new_senders q c.args.layout n)) count

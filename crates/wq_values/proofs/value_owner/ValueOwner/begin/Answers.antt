@@ -1,0 +1,16 @@
+use Rattle.wq_values.proofs.Alone.{values_alone}
+use Rattle.wq_calls.proofs.ValueSeats.{owner_learnt}
+use Rattle.wq_calls.proofs.HandedOver.{owner_hands}
+use Rattle.wq_values.proofs.value_owner.ValueOwner.begin.Goals as goal
+
+pub invariant_of-self : goal.invariant_of-self
+invariant_of-self g c = let e = c.begin_value.ensures in values_alone c.self.inside (record { seat = c.begin_value.new.self }) e.learns c.self.invariant e.owns
+
+pub returns-clause-learnt : goal.returns-clause-learnt
+returns-clause-learnt g c = owner_learnt 0 c.self.inside.seat c.begin_value.new.self c.begin_value.ensures.learns c.self.invariant.known
+    c.args.self.now c.self.view_is
+
+pub returns-clause-handed : goal.returns-clause-handed
+returns-clause-handed g c = let e = c.begin_value.ensures in
+    owner_hands c.self.inside.seat c.begin_value.new.self e.learns c.self.invariant.owns c.self.invariant.known
+    c.args.self.now c.self.view_is _ _ e.seen e.value
