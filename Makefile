@@ -45,9 +45,9 @@ recordings: build
 	examples/recording/record.sh $(PROGRAM)
 
 # Each worked row of a script, a schedule, a plan or a recording gives what stands beside it, and so does each command line; each read,
-# write, allocation and thread of the program fails in turn, with a C compiler; random
-# scripts of a delay table give what a sorted list does, random scripts, schedules and recordings what models of their tables and
-# definitions say; what docs/RECORDING.md has one write records a right queue; the converter of kernel traces reads each spelling.
+# write, allocation and thread of the program fails in turn, with a C compiler; random scripts of a delay table give what a sorted list
+# does, random scripts, schedules and recordings what models of their tables and definitions say; what docs/RECORDING.md has one write
+# records a right queue; the converter of kernel traces reads each spelling.
 rows: build
 	checks/rows.py $(PROGRAM)
 	checks/command_lines.py $(PROGRAM)

@@ -103,6 +103,8 @@ def cells(count, times, each):
 
 
 def main():
+    if len(sys.argv) < 2:
+        sys.exit(__doc__)
     program = sys.argv[1]
     rounds = int(sys.argv[2]) if len(sys.argv) > 2 else 5
     version = int(sys.argv[3]) if len(sys.argv) > 3 else 1

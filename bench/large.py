@@ -1,6 +1,8 @@
 #!/usr/bin/env python3
 """Times the program given on queues of more and more items, in some rounds (else 5): each call that goes over all items.
 
+usage: large.py PROGRAM [ROUNDS]
+
 A row is such a call, a column a number of items. A cell has the median over the rounds in nanoseconds an item, and how many bytes of
 memory an item were resident more after the call, where that is a byte at least. What takes no longer for more items stays the same
 along its row.
@@ -27,6 +29,8 @@ def cell(figures):
 
 
 def main():
+    if len(sys.argv) < 2:
+        sys.exit(__doc__)
     program = sys.argv[1]
     rounds = int(sys.argv[2]) if len(sys.argv) > 2 else 5
     got = {}

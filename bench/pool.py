@@ -63,6 +63,8 @@ def show_speeds(table, got):
 
 
 def main():
+    if len(sys.argv) < 3:
+        sys.exit(__doc__)
     program, runs = os.path.abspath(sys.argv[1]), int(sys.argv[2])
     items = int(sys.argv[3]) if len(sys.argv) > 3 else 800000
     before = sys.argv[4:]

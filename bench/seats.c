@@ -1,14 +1,16 @@
 // Items that several threads queue and one executes in order, to measure the calls of wq.h and what a user of C might take in their
-// place. usage: seats seats|mutex|async SENDERS SLICE TOTAL; prints `items N nanos T takes K least L`, as bench_queue does. With 0
+// place. usage: seats seats|mutex|async|pool SENDERS SLICE TOTAL; prints `items N nanos T takes K least L`, as bench_queue does. With 0
 // senders one thread queues a slice and executes it in turn.
 //
-// `seats` is wq.h; `mutex` a mutex, a ring and a PENDING byte an item; `async`, where it is compiled with -DGLIB=1, a GAsyncQueue with
-// such bytes. After a short take the owner passes three quarters of a microsecond, as bench_queue does, and a sender of wq.h that lost
+// `seats` is wq.h; `mutex` a mutex, a ring and a PENDING byte an item; where it is compiled with -DGLIB=1, `async` a GAsyncQueue with
+// such bytes, and `pool` a GThreadPool with them and one exclusive thread. That thread executes, with 0 senders too, and the program's
+// own sleeps until it has executed a batch, which it counts as a take. After a short take the owner passes three quarters of a microsecond, as bench_queue does, and a sender of wq.h that lost
 // an exchange gives way by the same count of pauses: it is measured, since a pause takes 6 nanoseconds on some processors and 45 on
 // others, and all kinds pause alike.
 #include <inttypes.h>
 #include <pthread.h>
 #include <sched.h>
+#include <semaphore.h>
 #include <stdatomic.h>
 #include <stdbool.h>
 #include <stdio.h>
@@ -37,6 +39,8 @@ struct queue {
 };
 
 static volatile uint64_t work;
+static uint32_t slice;
+static bool is_lone; // no senders
 static uint32_t spins; // as many pauses as pass in three quarters of a microsecond
 
 static void spin(uint32_t turns) {
@@ -156,6 +160,51 @@ static void run_async(void) {
 }
 
 static void stop_async(void) { atomic_store(&async_closed, true); }
+
+// ---- a GThreadPool
+
+static GThreadPool *pool;
+static _Atomic unsigned char *pool_pending;
+static atomic_bool pool_closed;
+static sem_t pool_ran; // a batch
+static uint32_t pool_batch, pool_left;
+
+// In the pool's thread.
+static void execute_pooled(gpointer item, gpointer none) {
+    (void)none;
+    atomic_store(&pool_pending[GPOINTER_TO_UINT(item) - 1], 0);
+    work++;
+    if (--pool_left == 0) {
+        pool_left = pool_batch;
+        sem_post(&pool_ran);
+    }
+}
+
+static bool make_pool(uint32_t senders, uint32_t items) {
+    (void)senders;
+    pool_left = pool_batch = is_lone ? slice : 4096;
+    pool_pending = calloc(items, 1);
+    if (!pool_pending || sem_init(&pool_ran, 0, 0)) return false;
+    pool = g_thread_pool_new(execute_pooled, NULL, 1, TRUE, NULL);
+    return pool != NULL;
+}
+
+static enum answer offer_pool(uint32_t sender, uint32_t item) {
+    (void)sender;
+    if (atomic_load(&pool_closed)) return REFUSED;
+    if (atomic_exchange(&pool_pending[item], 1)) return PENDING;
+    g_thread_pool_push(pool, GUINT_TO_POINTER(item + 1), NULL);
+    return QUEUED;
+}
+
+static uint32_t take_pool(void) {
+    while (sem_wait(&pool_ran)) continue; // a signal came
+    return pool_batch;
+}
+
+static void run_pool(void) {} // its thread has
+
+static void stop_pool(void) { atomic_store(&pool_closed, true); }
 #endif
 
 // ---- threads
@@ -168,11 +217,11 @@ static const struct {
     {"mutex", {make_ring, offer_ring, take_ring, run_ring, stop_ring}},
 #if GLIB
     {"async", {make_async, offer_async, take_async, run_async, stop_async}},
+    {"pool", {make_pool, offer_pool, take_pool, run_pool, stop_pool}},
 #endif
 };
 
 static struct queue queue;
-static uint32_t slice;
 static atomic_bool is_over;
 static struct { _Alignas(128) uint64_t queued; } counts[MOST_SENDERS];
 
@@ -205,18 +254,19 @@ int main(int argc, char **argv) {
     uint64_t total = strtoull(argv[4], NULL, 10), done = 0, takes = 0, least = UINT64_MAX;
     pthread_t ids[MOST_SENDERS];
     slice = (uint32_t)atoi(argv[3]);
+    is_lone = senders == 0;
     spins = wq_measured_spins();
     if (!queue.make || senders > MOST_SENDERS || !queue.make(most, most * slice)) return 2;
     uint64_t start = nanos();
     for (uint32_t at = 0; at < senders; at++)
         if (pthread_create(&ids[at], NULL, feed, (void *)(uintptr_t)at)) return 2;
     while (done < total) {
-        for (uint32_t item = 0; senders == 0 && item < slice; item++) queue.offer(0, item);
+        for (uint32_t item = 0; is_lone && item < slice; item++) queue.offer(0, item);
         uint32_t count = queue.take();
         takes += count > 0;
         for (uint32_t at = 0; at < count; at++) queue.run();
         done += count;
-        if (senders && count < SHORT_TAKE) spin(spins);
+        if (!is_lone && count < SHORT_TAKE) spin(spins);
     }
     uint64_t spent = nanos() - start;
     atomic_store(&is_over, true);
@@ -225,6 +275,6 @@ int main(int argc, char **argv) {
         pthread_join(ids[at], NULL);
         least = counts[at].queued < least ? counts[at].queued : least;
     }
-    printf("items %" PRIu64 " nanos %" PRIu64 " takes %" PRIu64 " least %" PRIu64 "\n", done, spent, takes, senders ? least : done);
+    printf("items %" PRIu64 " nanos %" PRIu64 " takes %" PRIu64 " least %" PRIu64 "\n", done, spent, takes, is_lone ? done : least);
     return 0;
 }

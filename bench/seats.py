@@ -1,11 +1,12 @@
 #!/usr/bin/env python3
 """Times items that threads of C queue and another executes by the calls of wq.h, in turn with bench_queue, the same words in C, a
-mutex and a ring, and GLib's GAsyncQueue where it is there.
+mutex and a ring, and GLib's GAsyncQueue and GThreadPool where it is there.
 
 usage: seats.py PROGRAM FOLDER ROUNDS [ITEMS [WORD..]]
 
 FOLDER has libyeangvos.a. Each round runs each row once in each cell, in turn, with so many items (500,000). The words stand in
-front of each command, as `chrt -f 10`. The table has for each row the median in nanoseconds an item with its quartiles.
+front of each command, as `chrt -f 10`. The table has for each row the median in nanoseconds an item with its quartiles. Without senders
+one thread queues a slice and executes it in turn; of the GThreadPool another thread executes there too.
 """
 import os
 import subprocess
@@ -20,10 +21,10 @@ def glib():
     try:
         said = subprocess.run(['pkg-config', '--cflags', '--libs', 'glib-2.0'], capture_output=True, text=True, check=False)
     except OSError:
-        print('no GAsyncQueue: pkg-config is not there', file=sys.stderr)
+        print('no GAsyncQueue and no GThreadPool: pkg-config is not there', file=sys.stderr)
         return None
     if said.returncode:
-        print('no GAsyncQueue: pkg-config does not find glib-2.0', file=sys.stderr)
+        print('no GAsyncQueue and no GThreadPool: pkg-config does not find glib-2.0', file=sys.stderr)
     return said.stdout.split() if said.returncode == 0 else None
 
 
@@ -40,7 +41,9 @@ def rows(program, folder, library):
     yield 'a mutex and a ring', [unchecked, 'mutex']
     flags = glib()
     if flags is not None:
-        yield 'GAsyncQueue', [compiled(folder, 'seats', '-DGLIB=1', libraries=archive + flags), 'async']
+        of_glib = compiled(folder, 'seats', '-DGLIB=1', libraries=archive + flags)
+        yield 'GAsyncQueue', [of_glib, 'async']
+        yield 'GThreadPool, one exclusive thread', [of_glib, 'pool']
 
 
 def read(command):
@@ -55,6 +58,8 @@ def lone_thread(command):
 
 
 def main():
+    if len(sys.argv) < 4:
+        sys.exit(__doc__)
     program, library, rounds = os.path.abspath(sys.argv[1]), os.path.abspath(sys.argv[2]), int(sys.argv[3])
     count = int(sys.argv[4]) if len(sys.argv) > 4 else 500000
     before = sys.argv[5:]

@@ -175,6 +175,8 @@ def show_lone(table, got):
 
 
 def main():
+    if len(sys.argv) < 3:
+        sys.exit(__doc__)
     program, rounds = os.path.abspath(sys.argv[1]), int(sys.argv[2])
     count = int(sys.argv[3]) if len(sys.argv) > 3 else 500000
     before = sys.argv[4:]

@@ -29,7 +29,7 @@ MEMORY_OF_A_CRATE = 3 << 30
 # the provers at work
 RUNNING = set()
 BEFORE = """Proves wqrun and what it stands on, {count} crates, side by side on {processors} processors, and builds it.
-From nothing that took 16 minutes by the clock on four processors, 48 minutes of them, where it was measured; a busy or
+From nothing that took 17 minutes by the clock on four processors, 44 minutes of them, where it was measured; a busy or
 slow machine takes up to three times as long, and where nothing has changed it takes some seconds. All that is said goes
 into {log}."""
 

@@ -48,6 +48,11 @@ built contended
 timeout 60 "$work/contended" pauses
 built misuse
 timeout 60 "$work/misuse"
+# each call of wq.h that takes a seat, but what makes one of its memory
+calls=$(sed -nE 's/^static inline uint32_t (wq_[a-z_]+)\(wq_seat .*/\1/p' include/wq.h | grep -vxE 'wq_enter|wq_init')
+for call in $calls; do
+    grep -qF "CHECK($call(seat" checks/c/misuse.c || { echo "misuse: $call is not asked for what it finds out"; exit 1; }
+done
 built worker
 timeout 60 "$work/worker"
 built worker -DWQ_UNCHECKED
@@ -153,11 +158,13 @@ if command -v python3 >/dev/null; then
 else
     left_out python3
 fi
-for number in 0 1 2 3; do
-    grep "^thread $number" "$work/lines" | diff - <(for line in 0 1 2 3; do echo "thread $number line $line"; done)
-    [ ! -e "$work/python_lines" ] || grep "^thread $number" "$work/python_lines" | diff - <(for line in 0 1 2 3; do echo "thread $number line $line"; done)
+for lines in "$work/lines" "$work/python_lines"; do
+    [ -e "$lines" ] || continue
+    for number in 0 1 2 3; do
+        grep "^thread $number" "$lines" | diff - <(for line in 0 1 2 3; do echo "thread $number line $line"; done)
+    done
+    grep -v "^thread" "$lines" | diff - <(for line in 4 5 6 7; do echo "again: thread 0 line $line"; done)
 done
-grep "^again" "$work/lines" | diff - <(for line in 4 5 6 7; do echo "again: thread 0 line $line"; done)
 echo "loggers: each thread's lines in its order"
 if command -v rustc >/dev/null && rustc --version >/dev/null 2>&1; then
     rustc --edition 2021 -O -o "$work/rust" checks/c/client.rs -C link-arg="$work/libyeangvos.a"

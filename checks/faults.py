@@ -7,6 +7,7 @@ of memory or of a thread is status 3, a reader or a writer that fails status 1, 
 What a writer that failed has taken is a beginning of that. It wants a C compiler.
 """
 import os
+import shutil
 import subprocess
 import sys
 import tempfile
@@ -43,8 +44,10 @@ class Runner:
 
     def __init__(self, program, folder):
         self.program, self.folder, self.told = program, Path(folder), Path(folder) / "told"
-        shim = self.folder / "faults.so"
-        subprocess.run([os.environ.get("CC", "cc"), "-O2", "-Wall", "-Wextra", "-shared", "-fPIC", "-o", shim, TOP / "checks/c/faults.c"], check=True)
+        shim, compiler = self.folder / "faults.so", os.environ.get("CC", "cc")
+        if not shutil.which(compiler):
+            sys.exit(f"faults: no C compiler {compiler}, so nothing was tried: name one by CC")
+        subprocess.run([compiler, "-O2", "-Wall", "-Wextra", "-shared", "-fPIC", "-o", shim, TOP / "checks/c/faults.c"], check=True)
         self.preload = {"LD_PRELOAD": str(shim), "FAULT_TOLD": str(self.told)}
 
     def run(self, words, text, fault="", place=0):

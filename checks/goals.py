@@ -17,6 +17,8 @@ from pathlib import Path
 GOALS = Path(__file__).resolve().parent / "goals"
 # the log has the beginning of the first goal alone, so a long name may be cut off
 REFUSED = re.compile(r"must-fail (\S+)\.edit: refused, as it must be: note: src/\S+: .*?\(`([\w-]*)")
+# with which option there are how many words at least
+FEWEST = {"--write": 2, "--controls": 3}
 PROVED = re.compile(r"must-fail (\S+)\.edit: NOT REFUSED")
 
 
@@ -55,7 +57,9 @@ def compare(rows, refused):
 
 
 def main(words):
-    said = Path(words[1 if words[0].startswith("--") else 0]).read_text(errors="replace")
+    if not words or len(words) < FEWEST.get(words[0], 1):
+        sys.exit(__doc__)
+    said = Path(words[words[0] in FEWEST]).read_text(errors="replace")
     refused = dict(REFUSED.findall(said))
     rows = {body: goals for body, *goals in map(str.split, GOALS.read_text().splitlines())}
     if words[0] == "--write":

@@ -13,7 +13,11 @@ folder=$(mktemp -d)
 trap 'rm -rf "$folder"' EXIT
 "${CC:-cc}" -O2 -Wall -Wextra -shared -fPIC -o "$folder/faults.so" c/faults.c
 # each call of the program has its line in the report, and each line its call
-diff <(cut -d: -f1 ../crates/test_memory/stdout | sort) <(cut -d' ' -f1 "$report" | sort)
+if ! diff <(cut -d: -f1 ../crates/test_memory/stdout | sort) <(cut -d' ' -f1 "$report" | sort); then
+    echo "A call of crates/test_memory/stdout (<) has no line in checks/refused_memory.report, or a line (>) no call. Add a line with the" >&2
+    echo "call's name alone, or take the line away, make the report anew by --all, and read what changed." >&2
+    exit 1
+fi
 
 refuse() {
     LD_PRELOAD=$folder/faults.so FAULT="allocation fails" FAULT_AT=100 FAULT_TOLD=$folder/told \

@@ -4,7 +4,9 @@
 #include <pthread.h>
 #include <string.h>
 
-static wq_seat owner, shared;
+static wq_seat owner, shared, vacant, blank;
+static uint32_t number;
+static wq_counts sums;
 
 static void *both(void *given) {
     uint64_t *busy = given;
@@ -16,34 +18,84 @@ static void *both(void *given) {
     return NULL;
 }
 
+/* Each call for a seat that is vacant, or for either. */
+static void seats_are_refused(wq_seat *seat, uint32_t why) {
+    CHECK(wq_build(seat, 1, 1, 1) == why);
+    CHECK(wq_hand_out(seat, &vacant) == why);
+    CHECK(wq_hand_out(&vacant, seat) == why);
+    CHECK(wq_hand_out(seat, seat) == why);
+    CHECK(wq_release(seat) == why);
+    CHECK(wq_add_counts(seat, &sums) == why);
+}
+
+static void calls_of_a_sender_are_refused(wq_seat *seat, uint32_t why) {
+    CHECK(wq_queue_tries(seat, 0, 1) == why);
+    CHECK(wq_queue(seat, 0) == why);
+    CHECK(wq_is_pending(seat, 0) == why);
+    CHECK(wq_flush_begin(seat, 0) == why);
+    CHECK(wq_flush_done(seat, 0) == why);
+    CHECK(wq_request_stop(seat) == why);
+    CHECK(wq_set_spins(seat, 128) == why);
+    CHECK(wq_number(seat, &number) == why);
+}
+
+static void calls_of_the_owner_are_refused(wq_seat *seat, uint32_t why) {
+    CHECK(wq_take(seat, &number) == why);
+    CHECK(wq_close(seat, &number) == why);
+    CHECK(wq_drain(seat, &number) == why);
+    CHECK(wq_resume(seat) == why);
+    CHECK(wq_next(seat, &number) == why);
+    CHECK(wq_waiting(seat, &number) == why);
+    CHECK(wq_begin(seat, &number) == why);
+    CHECK(wq_end(seat) == why);
+    CHECK(wq_rest(seat) == why);
+    CHECK(wq_chain(seat, 0) == why);
+    CHECK(wq_is_done(seat) == why);
+}
+
+/* Every call that takes a seat is refused for this one, and tells its caller nothing else: checks/c_api.sh looks that all are here. */
+static void all_are_refused(wq_seat *seat, uint32_t why) {
+    static const wq_counts none;
+    number = 4711;
+    seats_are_refused(seat, why);
+    calls_of_a_sender_are_refused(seat, why);
+    calls_of_the_owner_are_refused(seat, why);
+    CHECK(number == 4711 && memcmp(&sums, &none, sizeof sums) == 0);
+}
+
+/* As while a call of another thread is in the seat: it is in it still when each was refused. */
+static void all_are_refused_while_held(wq_seat *seat) {
+    seat->held = 1;
+    all_are_refused(seat, WQ_SEAT_BUSY);
+    CHECK(seat->held == 1);
+    seat->held = 0;
+}
+
 /* A hand-out that the owner's seat refuses has left the other seat, which it enters first. */
 static void owner_is_refused(void) {
-    static wq_seat unmade, vacant;
-    CHECK(wq_init(&vacant) == WQ_OK);
-    CHECK(wq_hand_out(&unmade, &vacant) == WQ_NO_SEAT && wq_release(&vacant) == WQ_OK);
-    owner.held = 1; /* as while a call of another thread is in it */
+    CHECK(wq_hand_out(&blank, &vacant) == WQ_NO_SEAT && wq_release(&vacant) == WQ_OK);
+    owner.held = 1;
     CHECK(wq_hand_out(&owner, &vacant) == WQ_SEAT_BUSY && wq_release(&vacant) == WQ_OK);
     owner.held = 0;
     CHECK(wq_hand_out(&owner, &vacant) == WQ_NO_SENDER && wq_release(&vacant) == WQ_OK);
 }
 
 int main(void) {
-    static wq_seat blank, copy;
+    static wq_seat copy, filled;
     uint64_t busy[2] = {0, 0};
     uint32_t n, count, ran = 0;
     pthread_t ids[2];
-    CHECK(wq_queue(&blank, 0) == WQ_NO_SEAT && wq_take(&blank, &n) == WQ_NO_SEAT && wq_build(&blank, 1, 1, 1) == WQ_NO_SEAT);
-    CHECK(wq_hand_out(&blank, &blank) == WQ_NO_SEAT && wq_set_spins(&blank, 128) == WQ_NO_SEAT);
-    memset(&blank, 0xff, sizeof blank);
-    CHECK(wq_queue(&blank, 0) == WQ_NO_SEAT && wq_release(&blank) == WQ_NO_SEAT);
+    CHECK(wq_init(&vacant) == WQ_OK);
+    all_are_refused(&blank, WQ_NO_SEAT);
+    memset(&filled, 0xff, sizeof filled);
+    all_are_refused(&filled, WQ_NO_SEAT);
     CHECK(wq_init(&owner) == WQ_OK && wq_init(&shared) == WQ_OK);
     CHECK(wq_build(&owner, 64, 1, 1) == WQ_OK && wq_hand_out(&owner, &blank) == WQ_NO_SEAT && wq_hand_out(&owner, &shared) == WQ_OK);
     memcpy(&copy, &shared, sizeof copy);
-    CHECK(wq_queue(&copy, 0) == WQ_NO_SEAT && wq_release(&copy) == WQ_NO_SEAT);
-    shared.held = 1; /* as while a call of another thread is in it */
-    CHECK(wq_queue(&shared, 0) == WQ_SEAT_BUSY && wq_release(&shared) == WQ_SEAT_BUSY && wq_hand_out(&owner, &shared) == WQ_SEAT_BUSY);
-    CHECK(wq_hand_out(&shared, &shared) == WQ_SEAT_BUSY && wq_set_spins(&shared, 128) == WQ_SEAT_BUSY);
-    shared.held = 0;
+    all_are_refused(&copy, WQ_NO_SEAT);
+    all_are_refused_while_held(&vacant);
+    all_are_refused_while_held(&shared);
+    all_are_refused_while_held(&owner);
     owner_is_refused();
     for (int i = 0; i < 2; i++) CHECK(pthread_create(&ids[i], NULL, both, &busy[i]) == 0);
     for (int i = 0; i < 2; i++) CHECK(pthread_join(ids[i], NULL) == 0);

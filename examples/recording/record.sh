@@ -10,7 +10,7 @@ trap 'rm -f "$made"' EXIT
 
 bug=0
 for name in right overtaking overlap lost twice; do
-    cc -O2 -Wall -Wextra -pthread -DBUG=$bug -o "$made" queue.c
+    "${CC:-cc}" -O2 -Wall -Wextra -pthread -DBUG=$bug -o "$made" queue.c
     "$made" >$name.trace
     status=0
     "$program" check --drained $name.trace >$name.report || status=$?

@@ -8,7 +8,7 @@ use Rattle.wq_worker.specs.Silent.{QueuesNoneBy}
 use Rattle.wq_value_worker.specs.Returned.{MayLeave, GivesBack, numbers_in}
 use Rattle.wq_value_worker.specs.ValueBook.{ValueBookState}
 use Rattle.wq_value_pool.specs.ValueState.{ValueWorkerState}
-use Rattle.wq_pool.specs.Finished.{EndsFrom, BeginAsHandedIn}
+use Rattle.wq_value_pool.specs.Finished.{EndsFrom, BeginAsHandedIn}
 use Rattle.example_log.specs.Text.{Line, WriterState}
 use Rattle.example_log.specs.Quiet.{IsQuiet, IsFresh, AreFresh, WritesInStep}
 

@@ -1,6 +1,6 @@
 //! The clients of both logs, in threads of their own.
 ghost use Rattle.std.specs.Prelude.{◌≡◌, ◌+◌, ◌<◌, ◌≤◌, ◌∷◌, [], All, length};
-ghost use Rattle.wq_pool.specs.Known.{IsCallerOf};
+ghost use Rattle.wq_value_pool.specs.Known.{IsCallerOf};
 ghost use Rattle.example_log.specs.Sent.{HasSent, IsNewClient, AreNewClients, StopsAlone, HaveSent};
 
 use crate::message::{Line, Message};
@@ -8,8 +8,7 @@ use crate::sending::{ACCESS, Client, ERRORS, ITEMS, Sent, send_all, stop};
 use crate::writer::Writer;
 use std::sync::Wait;
 use std::thread::{Threads, join};
-use wq_pool::Caller;
-use wq_value_pool::ValuePool;
+use wq_value_pool::{Caller, ValuePool};
 use wq_values::ValueSender;
 
 // One of the callers that are left.

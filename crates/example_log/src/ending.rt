@@ -1,9 +1,9 @@
 //! A log that has come to its end.
 ghost use Rattle.std.specs.Prelude.{◌≡◌, IfOk};
-ghost use Rattle.wq_pool.specs.History.{accepted};
-ghost use Rattle.wq_pool.specs.Legal.{IsComplete};
-ghost use Rattle.wq_pool.specs.Seen.{own};
-ghost use Rattle.wq_pool.specs.Headline.{KeepsHeadline};
+ghost use Rattle.wq_value_pool.specs.History.{accepted};
+ghost use Rattle.wq_value_pool.specs.Legal.{IsComplete};
+ghost use Rattle.wq_value_pool.specs.Seen.{own};
+ghost use Rattle.wq_value_pool.specs.Headline.{KeepsHeadline};
 ghost use Rattle.wq_value_pool.specs.Valued.{IsLegalWith, with_values};
 ghost use Rattle.wq_value_pool.specs.OwnBrought.{own_brought};
 ghost use mathlib.Core.List.{IsPrefix};

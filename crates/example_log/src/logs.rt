@@ -1,9 +1,9 @@
 //! The two logs and their pool.
 ghost use Rattle.std.specs.Prelude.{◌≡◌, ◌≤◌, ◌∷◌, [], All, IfOk, length};
-ghost use Rattle.wq_pool.specs.History.{IsRunning, IsShut};
-ghost use Rattle.wq_pool.specs.Known.{IsCallerOf};
-ghost use Rattle.wq_pool.specs.Finished.{AreFinishedBy, BeginAsHandedIn};
-ghost use Rattle.wq_pool.specs.WorkerId.{worker_id};
+ghost use Rattle.wq_value_pool.specs.History.{IsRunning, IsShut};
+ghost use Rattle.wq_value_pool.specs.Known.{IsCallerOf};
+ghost use Rattle.wq_value_pool.specs.Finished.{AreFinishedBy, BeginAsHandedIn};
+ghost use Rattle.wq_value_pool.specs.WorkerId.{worker_id};
 ghost use Rattle.wq_value_pool.specs.ValueState.{HasRunPairs};
 ghost use Rattle.example_log.specs.declared.message.Log.TheVariants as log;
 ghost use Rattle.example_log.specs.Sent.{SendsUnlessTurned, AreNewClients, HaveSent};
@@ -18,8 +18,7 @@ use crate::writer::Writer;
 use std::alloc::Global;
 use std::sync::Wait;
 use std::thread::{Threads, join};
-use wq_pool::{Caller, NoGate};
-use wq_value_pool::{ValuePool, ValuePoolFault, ValueServed};
+use wq_value_pool::{Caller, NoGate, ValuePool, ValuePoolFault, ValueServed};
 use wq_value_worker::{ValueBook, ValueWorker, steps_go_on};
 use wq_words::Layout;
 use wq_worker::nothing_is_asked;

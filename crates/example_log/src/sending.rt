@@ -1,6 +1,6 @@
 //! Clients, which send messages, and the stop items.
 ghost use Rattle.std.specs.Prelude.{◌≡◌, ◌<◌, ◌≤◌, ◌+◌, ◌++◌, [], ◌∷◌, Some, false, cond};
-ghost use Rattle.wq_pool.specs.Known.{IsSame, IsCallerOf};
+ghost use Rattle.wq_value_pool.specs.Known.{IsSame, IsCallerOf};
 ghost use Rattle.wq_value_pool.specs.KnownWith.{BringsOrReturns, answer_of};
 ghost use Rattle.wq_values.specs.Answers.{Answers};
 ghost use Rattle.wq_value_pool.specs.OwnBrought.{queued_value};
@@ -11,8 +11,7 @@ use crate::message::{Line, Log, Message};
 use crate::writer::Writer;
 use std::sync::Wait;
 use std::thread;
-use wq_pool::Caller;
-use wq_value_pool::ValuePool;
+use wq_value_pool::{Caller, ValuePool};
 use wq_values::{Answer, ValueAnswer, ValueSender, queued_brings, queued_is_accepted};
 
 /// So many items of each log are a client's: as many of its lines wait at a time.

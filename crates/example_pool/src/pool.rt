@@ -4,8 +4,9 @@ ghost use Rattle.wq_pool.specs.History.{accepted, IsRunning, IsShut};
 ghost use Rattle.wq_pool.specs.Seen.{own};
 ghost use Rattle.wq_pool.specs.Known.{IsCallerOf};
 ghost use Rattle.wq_pool.specs.State.{items_among};
-ghost use Rattle.wq_pool.specs.Finished.{AreFinished};
+ghost use Rattle.wq_pool.specs.Finished.{AreFinished, BeginAsHandedIn};
 ghost use Rattle.wq_pool.specs.WorkerId.{worker_id};
+ghost use Rattle.example_pool.specs.Clients.{ComesFromClients, AreUnused, RunsInStep};
 ghost use Rattle.example_pool.specs.Ended.{IsNewLine, HaveQueued, RanAll};
 
 use crate::queueing::{Line, Seat, Told, queue_all};
@@ -17,7 +18,7 @@ use thiserror::Error;
 use wq_live::Sender;
 use wq_pool::{Caller, NoGate, Pool, PoolFault, Served};
 use wq_words::Layout;
-use wq_worker::{Book, Unbuilt, Worker};
+use wq_worker::{Book, Unbuilt, Worker, nothing_is_asked};
 
 // So many numbers of each queue are executed at a time, where some are left at the end.
 const EXECUTIONS: u32 = 1024;
@@ -63,6 +64,7 @@ fn pool_of(
     requires idle { (¬ IsRunning one.seen) × (¬ IsRunning two.seen) }
     requires open { (¬ IsShut one.seen) × (¬ IsShut two.seen) }
     ensures workers { IfOk result (λ r. r.0.workers ≡ worker_id one ∷ worker_id two ∷ []) }
+    ensures states { IfOk result (λ r. r.0.states ≡ one ∷ two ∷ []) }
     ensures callers { IfOk result (λ r. All (IsCallerOf r.0.ready) r.1.items × (length r.1.items ≡ 7)) }
 {
     let Ok(queues) = Vec::from_array(alloc, [Served::new(one), Served::new(two)]) else {
@@ -152,7 +154,9 @@ fn serve<R: Threads + Wait + Sync>(
 
 // Takes the pool apart. Where something is left of a queue it goes on.
 fn finish<R: Wait>(rt: &R, pool: Pool<Runs>) -> Result<Vec<(Runs, Book)>, RunError>
-    ensures { IfOk result (λ all. AreFinished (λ work. work.ran.items) pool.workers all.items) }
+    ensures finished { IfOk result (λ all. AreFinished (λ work. work.ran.items) pool.workers all.items) }
+    ensures count { IfOk result (λ all. length all.items ≡ length pool.workers) }
+    ensures begins { IfOk result (λ all. BeginAsHandedIn (λ w. w) RunsInStep (λ b. b) (λ w b. Unit {0}) pool.states all.items) }
 {
     let mut pool = pool;
     for _ in rt.forever() {
@@ -181,12 +185,25 @@ fn both_of(finished: Vec<(Runs, Book)>) -> ((Runs, Book), (Runs, Book))
     (one, two)
 }
 
+// Both queues at their end. Their works asked for nothing, so no worker queued a number of its own.
+fn finish_both<R: Wait>(rt: &R, pool: Pool<Runs>) -> Result<((Runs, Book), (Runs, Book)), RunError>
+    requires two { length pool.workers ≡ 2 }
+    requires unused { AreUnused pool.states }
+    ensures finished { IfOk result (λ r. AreFinished (λ work. work.ran.items) pool.workers (r.0 ∷ r.1 ∷ [])) }
+    ensures of_workers { IfOk result (λ r. ComesFromClients r.0.1.seen × ComesFromClients r.1.1.seen) }
+{
+    nothing_is_asked::<Worker<Runs>>();
+    let finished = finish(rt, pool)?;
+    Ok(both_of(finished))
+}
+
 // Both senders meet the book, so that all that they queued is in it.
 fn meet(book: &mut Book, first: &mut Sender, second: &mut Sender)
     requires { (first.old.queue ≡ book.old.queue) × (second.old.queue ≡ book.old.queue) }
     ensures same { (book.new.queue ≡ book.old.queue) × (book.new.layout ≡ book.old.layout) }
     ensures senders { (first.new.queue ≡ first.old.queue) × (second.new.queue ≡ second.old.queue) }
     ensures accepted { accepted book.new.seen ≡ accepted book.old.seen }
+    ensures of_worker { ComesFromClients book.old.seen → ComesFromClients book.new.seen }
     ensures of_first { accepted (own first.old.number book.new.seen) ≡ accepted (own first.old.number first.old.seen) }
     ensures of_second { accepted (own second.old.number book.new.seen) ≡ accepted (own second.old.number second.old.seen) }
 {
@@ -198,6 +215,7 @@ fn meet(book: &mut Book, first: &mut Sender, second: &mut Sender)
 fn end_of(finished: (Runs, Book), told: (Told, Told)) -> Ended
     requires told { HaveQueued finished.1.queue told.0 told.1 }
     requires ran { finished.0.ran.items ≡ items_among finished.1.layout (accepted finished.1.seen) }
+    requires of_worker { ComesFromClients finished.1.seen }
     ensures layout { result.book.layout ≡ finished.1.layout }
     ensures history { RanAll result.book.layout result.book.seen result }
 {
@@ -236,7 +254,7 @@ pub fn run<R: Threads + Wait + Sync>(
     let two = line_of(&pool, &mut callers, 1, of_two);
     let caller = caller_of(&pool, &mut callers);
     let (told_one, told_two) = serve(rt, &pool, callers, caller, one, two)?;
-    let (one, two) = both_of(finish(rt, pool)?);
+    let (one, two) = finish_both(rt, pool)?;
     let one = end_of(one, told_one);
     let two = end_of(two, told_two);
     Ok((one, two))

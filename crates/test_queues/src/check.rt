@@ -365,17 +365,27 @@ const MARKS: &[(&[Mark], Option<MarkError>)] = &[
     (&[Mark::Queue(0), Mark::Start(0), Mark::End(0)], None),
 ];
 
+/// Shows the marks to a checker: all before the last are allowed, and the last has this error, or none.
+fn check_marks<R: Abort>(
+    rt: &R,
+    checker: &mut TraceChecker,
+    trace: &[Mark],
+    error: Option<MarkError>,
+) {
+    let mut refused = None;
+    for mark in trace {
+        expect_same(rt, refused, None);
+        refused = checker.mark(*mark).err();
+    }
+    expect_same(rt, (trace.len(), refused), (trace.len(), error));
+}
+
 #[test]
 fn causes_of_marks(rt: HostRuntime) {
     let layout = Layout::new(2, 1, 1).expect(&rt, "a layout");
     for &(trace, error) in MARKS {
         let mut checker = TraceChecker::new(rt.alloc(), layout).expect(&rt, "a checker");
-        let mut refused = None;
-        for mark in trace {
-            expect_same(&rt, refused, None);
-            refused = checker.mark(*mark).err();
-        }
-        expect_same(&rt, (trace.len(), refused), (trace.len(), error));
+        check_marks(&rt, &mut checker, trace, error);
     }
 }
 
@@ -384,9 +394,12 @@ fn report_of_a_trace(rt: HostRuntime) {
     use wq_check::Mark::{End, Queue, Start};
     let layout = Layout::new(2, 1, 1).expect(&rt, "a layout");
     let mut checker = TraceChecker::new(rt.alloc(), layout).expect(&rt, "a checker");
-    for mark in [Queue(1), Queue(1), Start(1), Queue(0)] {
-        checker.mark(mark).expect(&rt, "a mark that may be shown");
-    }
+    check_marks(
+        &rt,
+        &mut checker,
+        &[Queue(1), Queue(1), Start(1), Queue(0)],
+        None,
+    );
     let counts = MarkCounts {
         marks: 4,
         queued: 3,
@@ -398,9 +411,7 @@ fn report_of_a_trace(rt: HostRuntime) {
     for (place, item) in [(0, Some(1)), (1, Some(1)), (2, Some(0)), (3, None)] {
         expect_same(&rt, (place, checker.left_at(place)), (place, item));
     }
-    for mark in [End(1), Start(1), End(1)] {
-        checker.mark(mark).expect(&rt, "a mark that may be shown");
-    }
+    check_marks(&rt, &mut checker, &[End(1), Start(1), End(1)], None);
     expect_same(
         &rt,
         (checker.report().left, checker.left_at(0)),

@@ -1,5 +1,5 @@
 //! The machine of steps: what it refuses, and what holds after each step of a schedule, whichever seat stops in it. The schedules
-//! are those of `checks/rows/schedules.rows`, which says what each step replies.
+//! are those of `schedules.rows` and `draining_schedules.rows` in `checks/rows`, which say what each step replies.
 use crate::expect::expect_same;
 use std::alloc::{AllocError, Global};
 use std::process::Abort;
@@ -53,13 +53,22 @@ const ENABLED: &[(&str, &[u32], &[u32])] = &[
     ),
 ];
 
-/// Schedules of which some steps are not enabled: a walk first, links that are turned, and an owner that rests.
+/// Schedules of which some steps are not enabled: a walk first, links that are turned, an owner that rests, a drain of two while a
+/// sender holds an item that it has linked, and a drain while a batch waits, with a second one that is closed.
 const OTHERS: &[&str] = &[
     "steps 1\nitems 4\nsenders 2\no walk\n0 hold 0\n0 look\n0 link 0\n0 push 0\no take\no begin\no walk\no begin\n",
     "steps 1\nitems 4\nsenders 2\n0 hold 0\n0 look\n0 link 0\n0 push 0\n0 hold 1\n0 look\n0 link 1\n0 push 1\no take\no turn 1 end\n\
      o walk\no turn 1 end\no walk\no turn 0 1\no walk\no begin\no turn 0 end\no end\no walk\no begin\n",
     "steps 1\nitems 4\nsenders 2\no rest\no take\n0 hold 0\n0 look\no rest\n0 link 0\n0 push 0\n0 look\n0 link 0\n0 push 0\no rest\n\
      o take\no rest\n",
+    "steps 2\nitems 4\nsenders 2\n0 hold 0\n0 look\n0 link 0\n0 push 0\n1 hold 1\n1 look\n1 link 1\n1 push 1\n0 hold 2\n0 look\n\
+     0 link 2\no drain\n0 push 2\no walk\no begin\no resume\n1 hold 3\n1 look\n1 link 3\n1 back 3 draining\no walk\no begin\n\
+     o chain 3\no end\n0 look\no begin\no end\no resume\n0 back 2 draining\no begin\no end\no resume\n0 hold 2\n0 look\n0 link 2\n\
+     0 push 2\n",
+    "steps 2\nitems 4\nsenders 2\n0 hold 0\n0 look\n0 link 0\n0 push 0\n1 hold 2\n1 look\n1 link 2\no take\no drain\no walk\n\
+     o drain\no walk\no begin\no take\n1 push 2\no chain 1\no chain 1\n1 look\no end\n1 back 2 draining\no rest\no begin\no end\n\
+     o resume\n1 hold 2\n1 look\n1 link 2\no drain\n1 push 2\n1 hold 3\no close\no resume\n1 look\n1 back 3 draining\n\
+     1 back 2 closed\n",
 ];
 
 fn schedule<R: Abort + AllocGlobal>(rt: &R, text: &str) -> Schedule {
@@ -141,33 +150,48 @@ fn steps_without(
     Ok(schedule.turns().len())
 }
 
-/// Each seat stops at each place of a schedule, and at its end: what the others still do is legal, and runs in the order of its
+/// A seat stops at each place of a schedule, and at its end: what the others still do is legal, and runs in the order of its
 /// acceptance.
-fn check_stops<R: Abort + AllocGlobal>(rt: &R, text: &str) -> Result<(), Fail> {
+fn check_stops_of<R: Abort + AllocGlobal>(rt: &R, text: &str, stopped: Seat) -> Result<(), Fail> {
     let schedule = schedule(rt, text);
     let count = schedule.turns().len();
+    for place in 0..=count {
+        let steps = steps_without(rt.alloc(), &schedule, stopped, place)?;
+        expect_same(
+            rt,
+            (text, stopped, place, steps),
+            (text, stopped, place, count),
+        );
+    }
+    Ok(())
+}
+
+/// Each seat stops so.
+fn check_stops<R: Abort + AllocGlobal>(rt: &R, text: &str) -> Result<(), Fail> {
     for stopped in [S0, S1, O] {
-        for place in 0..=count {
-            let steps = steps_without(rt.alloc(), &schedule, stopped, place)?;
-            expect_same(
-                rt,
-                (text, stopped, place, steps),
-                (text, stopped, place, count),
-            );
-        }
+        check_stops_of(rt, text, stopped)?;
+    }
+    Ok(())
+}
+
+fn check_stops_of_enabled<R: Abort + AllocGlobal>(rt: &R) -> Result<(), Fail> {
+    for &(text, _, _) in ENABLED {
+        check_stops(rt, text)?;
+    }
+    Ok(())
+}
+
+fn check_stops_of_others<R: Abort + AllocGlobal>(rt: &R) -> Result<(), Fail> {
+    for &text in OTHERS {
+        check_stops(rt, text)?;
     }
     Ok(())
 }
 
 #[test]
 fn each_seat_stops_at_each_place(rt: HostRuntime) -> Result<(), Fail> {
-    for &(text, _, _) in ENABLED {
-        check_stops(&rt, text)?;
-    }
-    for &text in OTHERS {
-        check_stops(&rt, text)?;
-    }
-    Ok(())
+    check_stops_of_enabled(&rt)?;
+    check_stops_of_others(&rt)
 }
 
 fn layout<R: Abort>(rt: &R) -> Layout {
@@ -306,17 +330,21 @@ const DRAINS: &[&[(Seat, Step, Result<Reply, StepError>)]] = &[
     ],
 ];
 
+fn check_replies<R: Abort>(
+    rt: &R,
+    core: &mut Core,
+    steps: &[(Seat, Step, Result<Reply, StepError>)],
+) {
+    for &(seat, step, reply) in steps {
+        expect_same(rt, (seat, step, core.step(seat, step)), (seat, step, reply));
+    }
+}
+
 #[test]
 fn drains(rt: HostRuntime) {
     for &steps in DRAINS {
         let mut core = Core::new(rt.alloc(), layout(&rt)).expect(&rt, "memory");
-        for &(seat, step, reply) in steps {
-            expect_same(
-                &rt,
-                (seat, step, core.step(seat, step)),
-                (seat, step, reply),
-            );
-        }
+        check_replies(&rt, &mut core, steps);
     }
 }
 

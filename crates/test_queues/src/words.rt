@@ -260,37 +260,50 @@ const CLOSED_OR_DRAINING: &[(Event, Option<HistoryFault>, Option<HistoryFault>)]
     (Close, NOT_ALLOWED, None),
 ];
 
-#[test]
-fn events_after_an_open_history(rt: HostRuntime) {
-    let back = Back(0, 0, Why::Contended);
-    let (hold, other, held) = (Hold(0, 0), Hold(0, 1), Hold(1, 2));
-    for &(event, fault) in OPEN {
-        let before = [hold, back, hold, back, other, Push(0, 1), held];
-        check_after(&rt, before, event, fault);
-    }
-    for &(event, fault) in OPEN_THAT_RUNS {
-        let before = [hold, Push(0, 0), other, Push(0, 1), held, Take, Begin(0)];
-        check_after(&rt, before, event, fault);
+/// Whether each event of a table may stand right after a history.
+fn check_all_after<R: Abort>(rt: &R, before: [Event; 7], events: &[(Event, Option<HistoryFault>)]) {
+    for &(event, fault) in events {
+        check_after(rt, before, event, fault);
     }
 }
 
 #[test]
-fn events_after_a_close_or_a_drain(rt: HostRuntime) {
+fn events_after_an_open_history(rt: HostRuntime) {
+    let back = Back(0, 0, Why::Contended);
     let (hold, other, held) = (Hold(0, 0), Hold(0, 1), Hold(1, 2));
+    let idle = [hold, back, hold, back, other, Push(0, 1), held];
+    check_all_after(&rt, idle, OPEN);
+    let running = [hold, Push(0, 0), other, Push(0, 1), held, Take, Begin(0)];
+    check_all_after(&rt, running, OPEN_THAT_RUNS);
+}
+
+/// Whether an event may stand right after a close or a drain, as the mark says: where nothing runs, and where 0 does.
+fn check_shut<R: Abort>(
+    rt: &R,
+    mark: Event,
+    event: Event,
+    idle: Option<HistoryFault>,
+    running: Option<HistoryFault>,
+) {
+    let (hold, other, held) = (Hold(0, 0), Hold(0, 1), Hold(1, 2));
+    let before = [hold, Push(0, 0), other, Push(0, 1), held, Busy(0, 1), mark];
+    check_after(rt, before, event, idle);
+    let before = [hold, Push(0, 0), other, Push(0, 1), held, mark, Begin(0)];
+    check_after(rt, before, event, running);
+}
+
+#[test]
+fn events_after_a_close_or_a_drain(rt: HostRuntime) {
     for &(event, idle, running) in SHUT {
-        for mark in [Close, Drain] {
-            let before = [hold, Push(0, 0), other, Push(0, 1), held, Busy(0, 1), mark];
-            check_after(&rt, before, event, idle);
-            let before = [hold, Push(0, 0), other, Push(0, 1), held, mark, Begin(0)];
-            check_after(&rt, before, event, running);
-        }
+        check_shut(&rt, Close, event, idle, running);
+        check_shut(&rt, Drain, event, idle, running);
     }
+}
+
+#[test]
+fn events_that_tell_a_close_from_a_drain(rt: HostRuntime) {
     for &(event, closed, draining) in CLOSED_OR_DRAINING {
-        for (mark, fault) in [(Close, closed), (Drain, draining)] {
-            let before = [hold, Push(0, 0), other, Push(0, 1), held, Busy(0, 1), mark];
-            check_after(&rt, before, event, fault);
-            let before = [hold, Push(0, 0), other, Push(0, 1), held, mark, Begin(0)];
-            check_after(&rt, before, event, fault);
-        }
+        check_shut(&rt, Close, event, closed, closed);
+        check_shut(&rt, Drain, event, draining, draining);
     }
 }

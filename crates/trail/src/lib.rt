@@ -10,6 +10,7 @@ use std::marker::{Model, PhantomData};
 #[derive(Drop)]
 pub struct Trail {
     seal: (),
+    /// The list, oldest first.
     pub ghost items: { List ℕ },
 }
 

@@ -11,6 +11,7 @@ use std::marker::{Model, PhantomData};
 #[derive(Drop)]
 pub struct ValueTrail<V> {
     of: PhantomData<V>,
+    /// The list, oldest first.
     pub ghost items: { List (ℕ × V) },
 }
 

@@ -1,10 +1,11 @@
 //! The owner's part of a chair, which is the first, and what the owner keeps beside it: its calls, with or without values.
-ghost use Rattle.std.specs.Prelude.{◌≡◌, ◌≢◌, ℕ, ◌+◌, ◌<◌, ◌≤◌, ◌↔◌, false, [], ◌∷◌, ◌++◌, Some, None, IsTrue, length, slice_get};
+ghost use Rattle.std.specs.Prelude.{◌≡◌, ◌≢◌, ℕ, ◌+◌, ◌<◌, ◌≤◌, ◌↔◌, false, [], ◌∷◌, ◌++◌, Some, None, IsSome, IfSome, IsTrue, length, slice_get};
 ghost use mathlib.Core.List.{IsPrefix};
 ghost use Rattle.wq_words.specs.declared.event.Event.TheVariants.{Take, Close, Drain, Resume, Begin, End};
 ghost use Rattle.wq_words.specs.Numbers.{number_count};
 ghost use Rattle.wq_words.specs.History.{IsClosed, IsShut, IsDraining, closed, IsRunning, running, accepted, begun, ended};
-ghost use Rattle.wq_words.specs.Legal.{HasRunOut};
+ghost use Rattle.wq_words.specs.Legal.{IsComplete, HasRunOut};
+ghost use Rattle.wq_words.specs.Counting.{capped};
 ghost use Rattle.wq_words.specs.Valued.{Carries};
 ghost use Rattle.wq_core.specs.Words.{head_at, item_of};
 ghost use Rattle.atomic_table.specs.Seated.{TableId};
@@ -12,7 +13,7 @@ ghost use Rattle.wq_table.specs.SlotChairs.{value_owner};
 ghost use Rattle.wq_table.specs.Beside.{Learns, LearnsOrStays};
 ghost use Rattle.wq_words.specs.Seen.{own, owner_seat};
 ghost use Rattle.wq_calls.specs.Known.{IsSame, Sees};
-ghost use Rattle.wq_calls.specs.Answers.{Chains};
+ghost use Rattle.wq_calls.specs.Answers.{Chains, IsFinal};
 ghost use Rattle.wq_calls.specs.Batch.{batch, next_of, TakesAll};
 ghost use Rattle.wq_calls.specs.Rest.{Rests, HasRested, MayNotRest};
 ghost use Rattle.wq_calls.specs.Laws.{queued_number};
@@ -22,6 +23,7 @@ ghost use Rattle.wq_calls.specs.KnownWith.{answer_of, ChainsOrReturns};
 ghost use Rattle.wq_calls.specs.Valued.{owner_with};
 ghost use Rattle.wq_calls.specs.Hands.{OwnsSlots, OwnsEmptied, OwnsSeat, TurnedSlots, TurnsHands, batch_behind};
 
+use crate::answer::Done;
 use crate::counts::OwnerCounts;
 use crate::row::Row;
 use crate::value_answer::ValueAnswer;
@@ -303,7 +305,7 @@ impl<V: Drop> OwnerSeat<V> {
         ensures drained { IsTrue result ↔ (IsDraining (owner_view (owning self.now)).seen × HasRunOut (owner_view (owning self.now)).seen) }
         ensures all { IsTrue result → (ended (owner_view (owning self.now)).seen ≡ begun (owner_view (owning self.now)).seen)
             × (begun (owner_view (owning self.now)).seen ≡ accepted (owner_view (owning self.now)).seen) }
-        ensures rested { IsTrue result → (batch (owner_view (owning self.now)).seen ≡ []) × (¬ IsRunning (owner_view (owning self.now)).seen) }
+        ensures resumable { IsTrue result → (batch (owner_view (owning self.now)).seen ≡ []) × (¬ IsRunning (owner_view (owning self.now)).seen) }
         ensures finished { IsDraining (owner_view (owning self.now)).seen → batch (owner_view (owning self.now)).seen ≡ []
             → ¬ IsRunning (owner_view (owning self.now)).seen → IsTrue result }
     {
@@ -314,6 +316,25 @@ impl<V: Drop> OwnerSeat<V> {
             return false;
         }
         self.running.is_none()
+    }
+
+    /// Some where the queue is closed and all that was accepted has ended.
+    pub fn done(&self) -> Option<Done>
+        requires owns { OwnsSeat self.now }
+        ensures complete { IsSome result ↔ IsComplete (owner_view (owning self.now)).seen }
+        ensures count { IfSome result (λ done. done.ended ≡ capped (length (ended (owner_view (owning self.now)).seen))) }
+        ensures all { IsSome result → (ended (owner_view (owning self.now)).seen ≡ begun (owner_view (owning self.now)).seen)
+            × (begun (owner_view (owning self.now)).seen ≡ accepted (owner_view (owning self.now)).seen) }
+        ensures last { IsSome result → IsFinal (owner_view (owning self.now)).layout (owner_view (owning self.now)).seen }
+        ensures finished { IsClosed (owner_view (owning self.now)).seen → batch (owner_view (owning self.now)).seen ≡ []
+            → ¬ IsRunning (owner_view (owning self.now)).seen → IsSome result }
+    {
+        if !self.is_closed() || self.row.count != 0 || self.running.is_some() {
+            return None;
+        }
+        Some(Done {
+            ended: self.counts.ended,
+        })
     }
 
     /// The oldest number that was taken and has not begun.

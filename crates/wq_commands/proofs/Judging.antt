@@ -3,10 +3,10 @@ use Rattle.std.proofs.Common.{◌≡◌, ℕ, List, Bool, Option, Some, None, If
 use Rattle.std.specs.Prelude.{Result, Ok, Err, IfOk, IfErr, IsOkAnd, MatchResult}
 use Rattle.wq_recording.specs.declared.finding.Finding.{Finding}
 use Rattle.wq_recording.specs.Checking.{IsFoundOf}
-use Rattle.wq_commands.specs.declared.failure.Failure.{Failure}
-use Rattle.wq_commands.specs.declared.failure.Failure.TheVariants as failure
-use Rattle.wq_commands.specs.Ending.{WritesPart, Fails}
-use Rattle.wq_commands.proofs.Endings.{unmade_none, fails_unmade, fails_unwritten}
+use Rattle.wq_subcommand.specs.declared.failure.Failure.{Failure}
+use Rattle.wq_subcommand.specs.declared.failure.Failure.TheVariants as failure
+use Rattle.wq_subcommand.specs.Ending.{WritesPart, Fails}
+use Rattle.wq_subcommand.proofs.Endings.{unmade_none, fails_unmade, fails_unwritten}
 use Rattle.wq_commands.specs.Judged.{WritesFinding, Says, IsSaid, HasNoFinding}
 
 pub judges_at_end : (wants_drained : Bool) (status : ℕ) (remaining : Option (List ℕ)) (finding : Result Finding Failure) (before after : Option (List ℕ))

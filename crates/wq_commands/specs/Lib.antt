@@ -1,5 +1,3 @@
-pub mod Failure
-pub mod Ending
 pub mod Report
 pub mod ScheduleReport
 pub mod Judged

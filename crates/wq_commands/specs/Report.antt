@@ -1,12 +1,12 @@
 -- What the program makes of a script's text.
-use Rattle.std.specs.Prelude.{◌≡◌, ℕ, List, take}
+use Rattle.std.specs.Prelude.{◌≡◌, ℕ, List}
 use Rattle.wq_text.specs.declared.script.Script.{Script}
 use Rattle.wq_text.specs.Script.{layout_of, commands_of}
 use Rattle.wq_meaning.specs.Commands.{output_of}
 use Rattle.wq_text.specs.Keyword.{script_lines}
 use Rattle.wq_text.specs.Text.{Spells, IsRefusal}
-use Rattle.wq_commands.specs.declared.failure.Failure.{Failure}
-use Rattle.wq_commands.specs.declared.failure.Failure.TheVariants as failure
+use Rattle.wq_subcommand.specs.declared.failure.Failure.{Failure}
+use Rattle.wq_subcommand.specs.declared.failure.Failure.TheVariants as failure
 
 -- the text spells a script, and these are the bytes of its output
 pub record Reports (text report : List ℕ) : Type 0 where
@@ -19,7 +19,3 @@ abbrev pub HasNoReport : List ℕ → Failure → Type 0
 HasNoReport text (failure.Refused refusal) = IsRefusal (script_lines text) text refusal
 HasNoReport text failure.Memory = Unit {0}
 HasNoReport text _ = ⊥
-
--- as much of a reader's bytes as is read: one more than a script or a schedule may have
-abbrev pub text_read : List ℕ → List ℕ
-text_read bytes = take 1048577 bytes

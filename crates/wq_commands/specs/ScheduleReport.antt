@@ -6,8 +6,8 @@ use Rattle.wq_text.specs.Text.{Spells, IsRefusal}
 use Rattle.wq_text.specs.Turn.{schedule_lines}
 use Rattle.wq_meaning.specs.ScheduleOutput.{IsScheduleOutput}
 use Rattle.wq_recording.specs.HistoryText.{IsRecordingOf}
-use Rattle.wq_commands.specs.declared.failure.Failure.{Failure}
-use Rattle.wq_commands.specs.declared.failure.Failure.TheVariants as failure
+use Rattle.wq_subcommand.specs.declared.failure.Failure.{Failure}
+use Rattle.wq_subcommand.specs.declared.failure.Failure.TheVariants as failure
 
 -- the text spells a schedule, and these are the bytes of its output
 pub record Replays (text output : List ℕ) : Type 0 where

@@ -1,26 +1,33 @@
 //! `wqrun check`: a recording's bytes in, what is found of it out.
 ghost use Rattle.std.specs.Prelude.{◌≡◌, ◌≢◌, ◌⊎◌, IfOk, IfErr, IfSome, IsOkAnd, MatchResult};
 ghost use Rattle.wq_recording.specs.Checking.{IsFoundOf};
-ghost use Rattle.wq_commands.specs.declared.failure.Failure.{Failure as Cause};
-ghost use Rattle.wq_commands.specs.declared.failure.Failure.TheVariants.{Unwritable};
-ghost use Rattle.wq_commands.specs.Failure.{status_of};
-ghost use Rattle.wq_commands.specs.Ending.{Fails, IsUntouched, WritesPart};
-ghost use Rattle.wq_commands.specs.Judged.{WritesFinding, Says, IsSaid, HasNoFinding};
+ghost use Rattle.wq_subcommand.specs.declared.failure.Failure.{Failure as Cause};
+ghost use Rattle.wq_subcommand.specs.declared.failure.Failure.TheVariants.{Unwritable};
+ghost use Rattle.wq_subcommand.specs.Failure.{status_of};
+ghost use Rattle.wq_subcommand.specs.Ending.{Fails, IsUntouched, WritesPart};
+ghost use Rattle.wq_commands.specs.Judged.{WritesFinding, Says, IsSaid, HasNoFinding, of_check_error};
 
-use crate::ending::end;
-use crate::failure::Failure;
-use crate::status::{NOT_LEGAL, WRITTEN};
 use std::alloc::Global;
 use std::io::{BufRead, Write};
-use wq_recording::{Finding, check};
+use wq_recording::{CheckError, Finding, check};
+use wq_subcommand::{Failure, NOT_LEGAL, WRITTEN, end};
+
+// Why nothing was found.
+fn failure_of(error: CheckError) -> Failure
+    ensures { result ≡ of_check_error error }
+{
+    match error {
+        CheckError::Read(error) => Failure::from(error),
+        CheckError::Text(error) => Failure::from(error),
+    }
+}
 
 // What is found of the recording that a reader gives.
 fn read_finding<B: BufRead>(alloc: Global, reader: &mut B) -> Result<Finding, Failure>
     ensures found { IfOk result (λ finding. IfSome (B.remaining reader.old) (λ bytes. IsFoundOf bytes finding)) }
     ensures none { IfErr result (λ cause. IfSome (B.remaining reader.old) (λ bytes. HasNoFinding bytes cause)) }
 {
-    let finding = check(alloc, reader)?;
-    Ok(finding)
+    check(alloc, reader).map_err(failure_of)
 }
 
 // Writes what was found, where something was. The answer is the exit status.

@@ -12,7 +12,6 @@ pub use Rattle.wq_table.specs.Beside.{Learns}
 pub use Rattle.wq_table.specs.Plays.{all_see}
 pub use Rattle.wq_table.specs.SlotChairs.{ValueStanding, knowing, standing_of, value_senders}
 pub use Rattle.wq_table.specs.Slots.{plain_view}
-pub use Rattle.wq_words.proofs.Closed.{closed_shuts}
 pub use Rattle.wq_words.proofs.Headlines.{keeps_headline}
 pub use Rattle.wq_words.specs.Headline.{KeepsHeadline}
 pub use Rattle.wq_words.specs.History.{Holds, pending, running}

@@ -248,7 +248,7 @@ impl Owner {
     pub fn drained(&self) -> bool
         ensures drained { IsTrue result ↔ (IsDraining self.now.seen × HasRunOut self.now.seen) }
         ensures all { IsTrue result → (ended self.now.seen ≡ begun self.now.seen) × (begun self.now.seen ≡ accepted self.now.seen) }
-        ensures rested { IsTrue result → (batch self.now.seen ≡ []) × (¬ IsRunning self.now.seen) }
+        ensures resumable { IsTrue result → (batch self.now.seen ≡ []) × (¬ IsRunning self.now.seen) }
         ensures finished { IsDraining self.now.seen → batch self.now.seen ≡ [] → ¬ IsRunning self.now.seen → IsTrue result }
     {
         self.seat.drained()
@@ -269,12 +269,7 @@ impl Owner {
         ensures last { IsSome result → IsFinal self.now.layout self.now.seen }
         ensures finished { IsClosed self.now.seen → batch self.now.seen ≡ [] → ¬ IsRunning self.now.seen → IsSome result }
     {
-        if !self.seat.is_closed() || self.seat.row.count != 0 || self.seat.running.is_some() {
-            return None;
-        }
-        Some(Done {
-            ended: self.seat.counts.ended,
-        })
+        self.seat.done()
     }
 
     /// What it has counted of its own events.

@@ -58,11 +58,7 @@ impl Pair {
         Pair {
             seat: OwnerSeat {
                 chair: seat.chair.join(chair),
-                layout: seat.layout,
-                row: seat.row,
-                running: seat.running,
-                phase: seat.phase,
-                counts: seat.counts,
+                ..seat
             },
             sent,
         }
@@ -85,11 +81,7 @@ impl Pair {
         let owner = Owner {
             seat: OwnerSeat {
                 chair: first,
-                layout: seat.layout,
-                row: seat.row,
-                running: seat.running,
-                phase: seat.phase,
-                counts: seat.counts,
+                ..seat
             },
         };
         let sender = Sender {
@@ -137,7 +129,7 @@ impl Pair {
     pub fn drained(&self) -> bool
         ensures drained { IsTrue result ↔ (IsDraining self.now.seen × HasRunOut self.now.seen) }
         ensures all { IsTrue result → (ended self.now.seen ≡ begun self.now.seen) × (begun self.now.seen ≡ accepted self.now.seen) }
-        ensures rested { IsTrue result → (batch self.now.seen ≡ []) × (¬ IsRunning self.now.seen) }
+        ensures resumable { IsTrue result → (batch self.now.seen ≡ []) × (¬ IsRunning self.now.seen) }
         ensures finished { IsDraining self.now.seen → batch self.now.seen ≡ [] → ¬ IsRunning self.now.seen → IsTrue result }
     {
         self.seat.drained()

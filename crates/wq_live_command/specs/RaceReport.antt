@@ -6,8 +6,8 @@ use Rattle.wq_plan.specs.PlanText.{SpellsPlan, IsNoPlan}
 use Rattle.wq_plan.specs.Outcome.{outcome_line, IsWhole, TellsRace}
 use Rattle.wq_pool_plan.specs.Race.{IsLone}
 use Rattle.wq_pool_plan.specs.Outcome.{TellsPlan}
-use Rattle.wq_commands.specs.declared.failure.Failure.{Failure}
-use Rattle.wq_commands.specs.declared.failure.Failure.TheVariants as failure
+use Rattle.wq_subcommand.specs.declared.failure.Failure.{Failure}
+use Rattle.wq_subcommand.specs.declared.failure.Failure.TheVariants as failure
 
 -- The text spells a plan, and this is the line of its outcome. Where one worker has one queue, each of the plan's items was
 -- accepted once and ran once, and the outcome tells of that queue's history, book and ledgers, which balance; any other outcome

@@ -1,17 +1,17 @@
 //! `wqrun live`: a plan's bytes in, the line of its outcome out.
 ghost use Rattle.std.specs.Prelude.{◌≡◌, ◌≢◌, ◌⊎◌, IfOk, IfErr, IfSome, string_bytes};
-ghost use Rattle.wq_commands.specs.declared.failure.Failure.{Failure as Cause};
-ghost use Rattle.wq_commands.specs.Failure.{status_of};
-ghost use Rattle.wq_commands.specs.Ending.{Writes, Fails, IsUntouched, IsUnmade};
+ghost use Rattle.wq_subcommand.specs.declared.failure.Failure.{Failure as Cause};
+ghost use Rattle.wq_subcommand.specs.Failure.{status_of};
+ghost use Rattle.wq_subcommand.specs.Ending.{Writes, Fails, IsUntouched, IsUnmade};
 ghost use Rattle.wq_live_command.specs.RaceReport.{Races, HasNoRace, plan_read};
 
 use std::alloc::Global;
 use std::io::{Read, Write};
 use std::sync::Wait;
 use std::thread::Threads;
-use wq_commands::{Failure, end, read_most};
 use wq_plan::read_plan;
 use wq_pool_plan::run_live;
+use wq_subcommand::{Failure, end, read_most};
 
 // One byte more than `MOST_BYTES` of `wq_plan`, the most that a plan may have, so that a longer one is seen to be too long.
 const PLAN_BYTES: u64 = 65_537;

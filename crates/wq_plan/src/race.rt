@@ -145,11 +145,12 @@ fn start_sender<'s, E, R: Wait + Sync>(
     rt: &'s R,
     sender: Sender,
     own: u32,
-    unparker: Unparker,
+    unparker: &Unparker,
 ) -> Option<PromisedHandle<Sender, QueuesOwn>>
     requires { sender.number * own + own ≤ sender.layout.items }
     ensures { IfSome result (λ handle. (handle.promise.sender.value ≡ sender) × (handle.promise.own ≡ own)) }
 {
+    let unparker = unparker.clone().ok()?;
     let given = QueuesOwn {
         sender: Snapshot::of(&sender),
         own,
@@ -202,9 +203,6 @@ fn start_senders<'s, E, R: Threads + Wait + Sync>(
 {
     let mut handles = Vec::new(alloc);
     for sender in senders {
-        let Ok(unparker) = unparker.clone() else {
-            return handles;
-        };
         let Some(handle) = start_sender(scope, rt, sender, own, unparker) else {
             return handles;
         };

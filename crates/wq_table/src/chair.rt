@@ -125,8 +125,8 @@ impl<V> Chair<V> {
 }
 
 impl<V> Chair<V> {
-    /// A sender sets the PENDING bit of a number, and learns its item word as it was. Where it was clear the number's slot comes to hand,
-    /// with nothing in it.
+    /// A sender sets the PENDING bit of a number, and learns its item word as it was. Where it was clear the number's slot comes to
+    /// hand, with nothing in it.
     pub fn hold<P: Place>(&mut self, number: u32) -> u64
         requires sender { IsSender (part_in P.at self.old).stage }
         requires number { number < number_count (part_in P.at self.old).layout }

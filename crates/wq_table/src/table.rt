@@ -4,13 +4,17 @@ use trail::GhostList;
 use wq_core::Private;
 use wq_words::{Event, Layout};
 
-/// What a seat of a queue knows, but for what is brought: its number, the layout, the history that it has seen, the words as its
-/// last step left them, and what it keeps in private. No value of it is made.
+/// What a seat of a queue knows, but for what is brought. No value of it is made.
 pub struct Part {
+    /// Its number.
     pub seat: u64,
+    /// The size of the queue.
     pub layout: Layout,
+    /// The history that it has seen.
     pub seen: GhostList<Event>,
+    /// The words as its last step left them.
     pub words: GhostList<u64>,
+    /// What it keeps in private.
     pub stage: Stage,
 }
 

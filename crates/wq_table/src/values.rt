@@ -6,10 +6,11 @@ use std::marker::{Brand, PhantomData};
 use trail::GhostList;
 use wq_words::Layout;
 
-/// What a seat of a queue knows: its part, and what each accepted number of the history that it has seen brought, in their order.
-/// No value of it is made.
+/// What a seat of a queue knows. No value of it is made.
 pub struct ValuePart<V> {
+    /// What it knows but for what is brought.
     pub part: Part,
+    /// What each accepted number of the history that it has seen brought, in their order.
     pub brought: GhostList<Option<V>>,
 }
 

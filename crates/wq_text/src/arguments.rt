@@ -3,7 +3,7 @@ ghost use Rattle.std.specs.Prelude.{◌<◌, ◌≤◌, ◌≢◌, Err, map, len
 ghost use Rattle.wq_words.specs.Limits.{IsBetween};
 ghost use Rattle.wq_text.specs.declared.fault.LineError.TheVariants.{Memory};
 ghost use Rattle.wq_text.specs.Fault.{LineGives, LineGivesAs};
-ghost use Rattle.wq_text.specs.Arguments.{number, between, below, sender, item, barrier, limit, no_word, one_word, two_words, word_and_at_most, two, each, one_and_at_most};
+ghost use Rattle.wq_text.specs.Arguments.{number, between, below, sender, item, barrier, limit, no_word, one_word, two_words, word_and_at_most, one, two, each, one_and_at_most};
 
 use crate::command::Follow;
 use crate::fault::{Kind, LineError};
@@ -20,12 +20,13 @@ pub(crate) fn number(word: &str) -> Result<u64, LineError>
     }
 }
 
-// A number from `low` to `high`.
+// A number from `low` to `high`, the one word that stands there.
 #[tactic(auto, unfolding(crate::specs::Arguments::between))]
-pub(crate) fn between(kind: Kind, low: u32, high: u32, word: &str) -> Result<u32, LineError>
-    ensures exact { LineGives result (between kind low high word.now) }
+pub(crate) fn one_between(kind: Kind, low: u32, high: u32, words: &[&str]) -> Result<u32, LineError>
+    ensures exact { LineGives result (one (between kind low high) (map (λ w. w.now) words.now)) }
     ensures within { IfOk result (λ n. IsBetween low n high) }
 {
+    let word = one_word(words)?;
     let number = number(word)?;
     if number < u64::from(low) || number > u64::from(high) {
         return Err(LineError::Fault(kind));
@@ -72,11 +73,20 @@ pub(crate) fn barrier(layout: Layout, word: &str) -> Result<u32, LineError>
     below(Kind::Barrier, layout.barriers, word)
 }
 
-// A number of executions.
-pub(crate) fn limit(word: &str) -> Result<u32, LineError>
-    ensures { LineGives result (limit word.now) }
+// A number of executions, the one word that stands there.
+pub(crate) fn one_limit(words: &[&str]) -> Result<u32, LineError>
+    ensures { LineGives result (one limit (map (λ w. w.now) words.now)) }
 {
-    between(Kind::Limit, 1, 65536, word)
+    one_between(Kind::Limit, 1, 65536, words)
+}
+
+// An item, the one word that stands there.
+pub(crate) fn one_item(layout: Layout, words: &[&str]) -> Result<u32, LineError>
+    ensures exact { LineGives result (one (item layout) (map (λ w. w.now) words.now)) }
+    ensures within { IfOk result (λ n. n < layout.items) }
+{
+    let word = one_word(words)?;
+    item(layout, word)
 }
 
 /// No word stands there.

@@ -1,11 +1,11 @@
 //! Which line is awaited, and the lines of the header.
 ghost use Rattle.std.specs.Prelude.{◌≡◌, map, IfOk};
 ghost use Rattle.wq_text.specs.Fault.{LineGives};
-ghost use Rattle.wq_text.specs.Header.{limited, is_header, awaits, layout_at, behind_items, header_gives, header_line_gives};
+ghost use Rattle.wq_text.specs.Header.{limited, is_header, layout_at, behind_items, header_line_gives};
 ghost use Rattle.wq_text.specs.Sound.{KeepsHeader};
 ghost use Rattle.wq_text.specs.declared.header.Stage.TheVariants.{Items};
 
-use crate::arguments::{between, one_word};
+use crate::arguments::one_between;
 use crate::fault::{Kind, LineError};
 use wq_words::Layout;
 
@@ -35,19 +35,6 @@ pub enum Stage {
 }
 
 impl Stage {
-    // Whether a line of the header with this first word belongs here.
-    #[tactic(auto, unfolding(crate::specs::Header::awaits))]
-    fn awaits(self, word: &str) -> bool
-        ensures { result ≡ awaits self word.now }
-    {
-        match self {
-            Stage::Items => word == "items",
-            Stage::Senders(_) => word == "senders",
-            Stage::Barriers(_) => word == "barriers",
-            Stage::Version | Stage::Commands(_) => false,
-        }
-    }
-
     /// The layout, once a line may ask something of the queue.
     pub fn layout(self) -> Option<Layout>
         ensures known { result ≡ layout_at self }
@@ -90,29 +77,8 @@ fn behind_items(names_seats: bool, most: Most, items: u32) -> Result<Stage, Line
     }
 }
 
-// What is awaited behind a line of the header, from the words behind its first.
-#[tactic(auto, unfolding(crate::specs::Header::header_gives))]
-fn header(names_seats: bool, most: Most, stage: Stage, words: &[&str]) -> Result<Stage, LineError>
-    ensures exact { LineGives result (header_gives names_seats most stage (map (λ w. w.now) words.now)) }
-    ensures sound { IfOk result (KeepsHeader most.senders stage) }
-{
-    match stage {
-        Stage::Items => one_word(words)
-            .and_then(|word| between(Kind::Items, 1, most.items, word))
-            .and_then(|items| behind_items(names_seats, most, items)),
-        Stage::Senders(layout) => one_word(words)
-            .and_then(|word| between(Kind::Senders, 1, most.senders, word))
-            .and_then(|senders| limited(Kind::Senders, layout.items, 1, senders))
-            .map(Stage::Barriers),
-        Stage::Barriers(layout) => one_word(words)
-            .and_then(|word| between(Kind::Barriers, 1, 16, word))
-            .and_then(|barriers| limited(Kind::Barriers, layout.items, barriers, layout.senders))
-            .map(Stage::Commands),
-        Stage::Version | Stage::Commands(_) => Err(LineError::Fault(Kind::Header)),
-    }
-}
-
 // What is awaited behind a line of the header, where it belongs here.
+#[tactic(auto, unfolding(crate::specs::Header::awaits, crate::specs::Header::header_gives))]
 pub(crate) fn header_line(
     names_seats: bool,
     most: Most,
@@ -123,8 +89,19 @@ pub(crate) fn header_line(
     ensures exact { LineGives result (header_line_gives names_seats most stage first.now (map (λ w. w.now) others.now)) }
     ensures sound { IfOk result (KeepsHeader most.senders stage) }
 {
-    if !stage.awaits(first) {
-        return Err(LineError::Fault(Kind::Header));
+    match stage {
+        Stage::Items if first == "items" => {
+            let items = one_between(Kind::Items, 1, most.items, others)?;
+            behind_items(names_seats, most, items)
+        }
+        Stage::Senders(layout) if first == "senders" => {
+            let senders = one_between(Kind::Senders, 1, most.senders, others)?;
+            limited(Kind::Senders, layout.items, 1, senders).map(Stage::Barriers)
+        }
+        Stage::Barriers(layout) if first == "barriers" => {
+            let barriers = one_between(Kind::Barriers, 1, 16, others)?;
+            limited(Kind::Barriers, layout.items, barriers, layout.senders).map(Stage::Commands)
+        }
+        _ => Err(LineError::Fault(Kind::Header)),
     }
-    header(names_seats, most, stage, others)
 }

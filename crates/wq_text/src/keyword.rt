@@ -5,7 +5,7 @@ ghost use Rattle.wq_text.specs.Fits.{Fits};
 ghost use Rattle.wq_text.specs.Keyword.{keyword_at, keyword_at_2, command_gives};
 
 use crate::arguments::{
-    item, item_and_delay, item_and_follow, limit, no_word, number, one_word, sender,
+    item_and_delay, item_and_follow, no_word, number, one_item, one_limit, one_word, sender,
     sender_and_barrier, sender_and_item,
 };
 use crate::command::Command;
@@ -77,44 +77,40 @@ pub(crate) fn command(
     ensures fits { IfOk result (Fits layout) }
 {
     match keyword {
-        Keyword::Queue => sender_and_item(layout, words).map(|(sender, item)| Command::Queue {
-            sender,
-            item,
-        }),
-        Keyword::Run => one_word(words).and_then(limit).map(Command::Run),
+        Keyword::Queue => {
+            let (sender, item) = sender_and_item(layout, words)?;
+            Ok(Command::Queue { sender, item })
+        }
+        Keyword::Run => one_limit(words).map(Command::Run),
         Keyword::Close => no_word(words).map(|()| Command::Close),
         Keyword::Report => no_word(words).map(|()| Command::Report),
-        Keyword::Follow => item_and_follow(layout, words).map(|(item, follow)| Command::Follow {
-            item,
-            follow,
-        }),
-        Keyword::Flush => sender_and_barrier(layout, words).map(|(sender, barrier)| Command::Flush {
-            sender,
-            barrier,
-        }),
-        Keyword::Done => sender_and_barrier(layout, words).map(|(sender, barrier)| Command::Done {
-            sender,
-            barrier,
-        }),
+        Keyword::Follow => {
+            let (item, follow) = item_and_follow(layout, words)?;
+            Ok(Command::Follow { item, follow })
+        }
+        Keyword::Flush => {
+            let (sender, barrier) = sender_and_barrier(layout, words)?;
+            Ok(Command::Flush { sender, barrier })
+        }
+        Keyword::Done => {
+            let (sender, barrier) = sender_and_barrier(layout, words)?;
+            Ok(Command::Done { sender, barrier })
+        }
         Keyword::Stop => one_word(words)
             .and_then(|word| sender(layout, word))
             .map(Command::Stop),
-        Keyword::Drain => one_word(words).and_then(limit).map(Command::Drain),
-        Keyword::DrainAndResume => one_word(words).and_then(limit).map(Command::DrainAndResume),
-        Keyword::Check => one_word(words)
-            .and_then(|word| item(layout, word))
-            .map(Command::Check),
-        Keyword::Arm => item_and_delay(layout, words).map(|(item, delay)| Command::Arm {
-            item,
-            delay,
-        }),
-        Keyword::Cancel => one_word(words)
-            .and_then(|word| item(layout, word))
-            .map(Command::Cancel),
-        Keyword::Modify => item_and_delay(layout, words).map(|(item, delay)| Command::Modify {
-            item,
-            delay,
-        }),
+        Keyword::Drain => one_limit(words).map(Command::Drain),
+        Keyword::DrainAndResume => one_limit(words).map(Command::DrainAndResume),
+        Keyword::Check => one_item(layout, words).map(Command::Check),
+        Keyword::Arm => {
+            let (item, delay) = item_and_delay(layout, words)?;
+            Ok(Command::Arm { item, delay })
+        }
+        Keyword::Cancel => one_item(layout, words).map(Command::Cancel),
+        Keyword::Modify => {
+            let (item, delay) = item_and_delay(layout, words)?;
+            Ok(Command::Modify { item, delay })
+        }
         Keyword::Advance => one_word(words).and_then(number).map(Command::Advance),
     }
 }

@@ -8,7 +8,7 @@ ghost use Rattle.wq_text.specs.Turn.{after_b, number_of_queue, link_of, owners_a
 ghost use Rattle.wq_text.specs.Turns.{PlacedIn};
 ghost use Rattle.wq_text.specs.Arguments.{no_word};
 
-use crate::arguments::{barrier, item, no_word, one_word, sender, two_words};
+use crate::arguments::{barrier, item, no_word, one_item, one_word, sender, two_words};
 use crate::fault::LineError;
 use wq_core::{Seat, Step};
 use wq_words::{Layout, Why};
@@ -197,29 +197,30 @@ pub(crate) fn turn(
     ensures fits { IfOk result (PlacedIn layout) }
 {
     match action {
-        Action::Hold => seat_and_number(layout, first, words).map(|(sender, number)| (
-            Seat::Sender(sender),
-            Step::Hold(number),
-        )),
-        Action::Look => {
-            seat_alone(layout, first, words).map(|sender| (Seat::Sender(sender), Step::Look))
+        Action::Hold => {
+            let (sender, number) = seat_and_number(layout, first, words)?;
+            Ok((Seat::Sender(sender), Step::Hold(number)))
         }
-        Action::Link => seat_and_number(layout, first, words).map(|(sender, number)| (
-            Seat::Sender(sender),
-            Step::Link(number),
-        )),
-        Action::Push => seat_and_number(layout, first, words).map(|(sender, number)| (
-            Seat::Sender(sender),
-            Step::Push(number),
-        )),
-        Action::Back(why) => seat_and_number(layout, first, without_last(words)).map(|(
-            sender,
-            number,
-        )| (Seat::Sender(sender), Step::Back(number, why))),
-        Action::Check => seat_and_number(layout, first, words).map(|(sender, number)| (
-            Seat::Sender(sender),
-            Step::Check(number),
-        )),
+        Action::Look => {
+            let sender = seat_alone(layout, first, words)?;
+            Ok((Seat::Sender(sender), Step::Look))
+        }
+        Action::Link => {
+            let (sender, number) = seat_and_number(layout, first, words)?;
+            Ok((Seat::Sender(sender), Step::Link(number)))
+        }
+        Action::Push => {
+            let (sender, number) = seat_and_number(layout, first, words)?;
+            Ok((Seat::Sender(sender), Step::Push(number)))
+        }
+        Action::Back(why) => {
+            let (sender, number) = seat_and_number(layout, first, without_last(words))?;
+            Ok((Seat::Sender(sender), Step::Back(number, why)))
+        }
+        Action::Check => {
+            let (sender, number) = seat_and_number(layout, first, words)?;
+            Ok((Seat::Sender(sender), Step::Check(number)))
+        }
         Action::Take => owners_turn(Step::Take, words),
         Action::Close => owners_turn(Step::Close, words),
         Action::Drain => owners_turn(Step::Drain, words),
@@ -228,13 +229,14 @@ pub(crate) fn turn(
         Action::Begin => owners_turn(Step::Begin, words),
         Action::End => owners_turn(Step::End, words),
         Action::Rest => owners_turn(Step::Rest, words),
-        Action::Chain => one_word(words)
-            .and_then(|word| item(layout, word))
-            .map(|number| (Seat::Owner, Step::Chain(number))),
-        Action::Turn => number_and_link(layout, words).map(|(number, next)| (
-            Seat::Owner,
-            Step::Turn(number, next),
-        )),
+        Action::Chain => {
+            let number = one_item(layout, words)?;
+            Ok((Seat::Owner, Step::Chain(number)))
+        }
+        Action::Turn => {
+            let (number, next) = number_and_link(layout, words)?;
+            Ok((Seat::Owner, Step::Turn(number, next)))
+        }
     }
 }
 

@@ -7,9 +7,13 @@ use wq_words::Layout;
 /// What never changes of a worker: its queue, how large that is, its sender's number, and the tries of a queueing. No value of
 /// it is made.
 pub struct WorkerId {
+    /// Its queue.
     pub ghost queue: { TableId } by { table_id_coded },
+    /// How large that is.
     pub layout: Layout,
+    /// Its sender's number.
     pub number: u32,
+    /// The tries of a queueing.
     pub tries: u32,
 }
 

@@ -1,4 +1,4 @@
-//! What follows from what a pool of values says, in the form in which a caller needs it. These functions compute nothing: each one's
+//! What follows from what a pool of values says, in the form in which a caller needs it. The function computes nothing: its
 //! contract is a law, which a caller has in hand after the call.
 ghost use mathlib.Core.List.{IsPrefix};
 ghost use Rattle.std.specs.Prelude.{◌≡◌};

@@ -22,8 +22,8 @@ pub use Rattle.wq_words.specs.Seen.{Grows, is_ours, own, owner_seat, seat_of}
 pub use Rattle.wq_words.specs.declared.event.Event.{Event}
 pub use Rattle.wq_words.specs.declared.event.Event.TheVariants.{Begin, Busy, Close, Drain, End, Hold, Push, Resume, Take}
 pub use Rattle.wq_words.specs.declared.layout.Layout.{Layout}
-pub use Rattle.wq_value_worker.specs.Deals.{BeginsValue, DealsOut}
-pub use Rattle.wq_value_worker.specs.Dealt.{brought_in, queueing_in}
+pub use Rattle.wq_value_worker.specs.Deals.{BeginsValue, DealsOut, queueing_seat}
+pub use Rattle.wq_value_worker.specs.Dealt.{brought_in}
 pub use Rattle.wq_worker.specs.Follow.{Follows, contended_of}
 pub use Rattle.wq_worker.specs.Pair.{Both, QueuesRest, StaysOr, contended, finished}
 pub use Rattle.wq_worker.specs.Resting.{IsReady, IsUnready, rest_events}

@@ -1,7 +1,7 @@
 -- What the queueing of a pair does, by its answer.
 use Rattle.wq_value_worker.proofs.Common.{◌≡◌, ℕ, ◌<◌, ◌≤◌, Bool, true, false, if◌then◌else◌, List, [], ◌∷◌, ◌++◌, Option, inl, inr, refl, sym, ap, ◌∙◌}
 use Rattle.wq_value_worker.proofs.Common.{subst, append-nil, Hold, Busy, Push, shut, IsLegal, owner_seat, Sees, IsContended, Learnt, pair_owner}
-use Rattle.wq_value_worker.proofs.Common.{pair_sender, KnownValuePair, owner_of, contended_of, KeepsHanded, queueing_in, brought_in}
+use Rattle.wq_value_worker.proofs.Common.{pair_sender, KnownValuePair, owner_of, contended_of, KeepsHanded, queueing_seat, brought_in}
 use Rattle.wq_words.specs.declared.event.Event.TheVariants.{Chain, ChainBusy}
 use Rattle.wq_words.specs.declared.answer.Answer.TheVariants as answer
 use Rattle.wq_calls.specs.declared.value_answer.ValueAnswer.{ValueAnswer}
@@ -20,7 +20,8 @@ use Rattle.wq_worker.proofs.Follow.{never_closed, never_drains}
 
 module _ {V : Type 0} where
   -- the queueing seat, while the queue takes pushes and once it is shut
-  seat_at : (b : Bool) (old : KnownValuePair V) → shut old.known.seen ≡ b → queueing_in old ≡ (if b then owner_seat else old.known.number)
+  seat_at : (b : Bool) (old : KnownValuePair V) → shut old.known.seen ≡ b
+      → queueing_seat old.known.seen old.known.number ≡ (if b then owner_seat else old.known.number)
   seat_at b old is = ap (λ (z : Bool). if z then owner_seat else old.known.number) is
 
   -- what a seat of the pair brought is more by these
@@ -40,7 +41,7 @@ module _ {V : Type 0} where
       queues = passed high refl;
       deals = returns refl refl refl;
       both = both_still p.known legal;
-      brings = sym (append-nil (brought_in (queueing_in p) p));
+      brings = sym (append-nil (brought_in (queueing_seat p.known.seen p.known.number) p));
       kept = inl refl;
     },
   )
@@ -51,7 +52,7 @@ module _ {V : Type 0} where
   dealt_chain k v tries a old new low is_shut answers value kept others = go a answers value
     where
       brings : (a : ValueAnswer V) → Chains k (answer_of a) (pair_owner old.known) (pair_owner new.known) → ChainsOrReturns k v a (owner_of new)
-          → Brings old new (queued_value v a) (queueing_in old)
+          → Brings old new (queued_value v a) (queueing_seat old.known.seen old.known.number)
       brings a answers value =
           subst (Brings old new (queued_value v a)) (sym (seat_at true old is_shut))
           (chained_own k v a (owner_of old) (owner_of new) refl answers value kept.learnt)
@@ -90,7 +91,7 @@ module _ {V : Type 0} where
   dealt_send k v tries a old new low opens answers value kept others = go a answers value
     where
       brings : (a : ValueAnswer V) → Answers k tries (answer_of a) (pair_sender old.known) (pair_sender new.known) → BringsOrReturns k v a (sender_of new)
-          → Brings old new (queued_value v a) (queueing_in old)
+          → Brings old new (queued_value v a) (queueing_seat old.known.seen old.known.number)
       brings a answers value =
           subst (Brings old new (queued_value v a)) (sym (seat_at false old opens))
           (brings_own k tries v a (sender_of old) (sender_of new) answers value (sender_learnt old new kept.learnt))
@@ -126,7 +127,7 @@ module _ {V : Type 0} where
           item = low;
           unshut = opens;
           both = by_sender (contended_of old.known.number k) tries 0 old.known new.known answers others;
-          brings = brings (given.Contended w) answers back ∙ append-nil (brought_in (queueing_in old) old);
+          brings = brings (given.Contended w) answers back ∙ append-nil (brought_in (queueing_seat old.known.seen old.known.number) old);
           kept = kept;
           contended = met refl;
         },

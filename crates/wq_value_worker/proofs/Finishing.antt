@@ -2,7 +2,7 @@
 use Rattle.wq_value_worker.proofs.Common.{◌≡◌, ℕ, ◌<◌, Bool, true, false, cond, ◌==◌, if◌then◌else◌, Some, List, [], ◌∷◌, ◌++◌, length, inr, refl, sym, ap}
 use Rattle.wq_value_worker.proofs.Common.{◌∙◌, subst, arith, or_parts, append-nil, Layout, Event, End, accepted, shut, running, IsRunning, owner_seat}
 use Rattle.wq_value_worker.proofs.Common.{seat_of, own, is_ours, IsContended, KnownValuePair, Adds, contended_of, StaysOr, Both, QueuesRest, finished}
-use Rattle.wq_value_worker.proofs.Common.{contended, GivesBack, MayLeave, numbers_in, KeepsHanded, AreValueParts, EndsBy, OwesBy, DealsOut, queueing_in}
+use Rattle.wq_value_worker.proofs.Common.{contended, GivesBack, MayLeave, numbers_in, KeepsHanded, AreValueParts, EndsBy, OwesBy, DealsOut, queueing_seat}
 use Rattle.wq_value_worker.proofs.Common.{brought_in}
 use Rattle.std.proofs.lemmas.List.{map-append}
 use Rattle.wq_calls.proofs.OwnBrought.{own_still}
@@ -113,7 +113,8 @@ module _ {V W : Type 0} (log given : W → List (ℕ × V)) (takes : W → ℕ �
     -- of what was owed the pairs before `left` were dealt with, and what was added behind accepted nothing
     settles_by : (ps left : List (ℕ × V)) (u w : W) (old mid new : KnownValuePair V) (after : List Event) (n : ℕ)
         → DealtSofar log given takes ps left u w old mid → IsRunning old.known.seen → Both after n mid.known new.known → accepted after ≡ []
-        → (¬ IsRunning new.known.seen → left ≡ []) → brought_in (queueing_in old) new ≡ brought_in (queueing_in old) mid
+        → (¬ IsRunning new.known.seen → left ≡ []) → brought_in (queueing_seat old.known.seen old.known.number) new
+        ≡ brought_in (queueing_seat old.known.seen old.known.number) mid
         → DealsOut given may takes (value_state_of old tries ps u) (value_state_of new tries left w)
     settles_by ps left u w old mid new after n f runs b none no_more still =
         let t = f.all in let whole = (both_on f.events after 0 n old.known mid.known new.known t.both b).adds in record {

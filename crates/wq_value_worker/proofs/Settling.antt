@@ -1,7 +1,7 @@
 -- The pairs of a run, as far as they were dealt with.
 use Rattle.wq_value_worker.proofs.Common.{◌≡◌, ℕ, true, false, if◌then◌else◌, List, [], ◌∷◌, ◌++◌, Option, Some, inl, inr, refl, sym, ap, ◌∙◌, subst}
 use Rattle.wq_value_worker.proofs.Common.{append_assoc, append-nil, Event, shut, IsRunning, IsLegal, owner_seat, KnownValuePair, owner_of, learnt_on}
-use Rattle.wq_value_worker.proofs.Common.{StaysOr, KeepsHanded, numbers_in, queueing_in, brought_in}
+use Rattle.wq_value_worker.proofs.Common.{StaysOr, KeepsHanded, numbers_in, queueing_seat, brought_in}
 use Rattle.std.proofs.lemmas.List.{map-append}
 use Rattle.wq_value_worker.specs.Returned.{GivenBack, none, values_in}
 use Rattle.wq_value_worker.specs.Dealt.{DealsPair, IsContendedPair, BothDealAll, BothDealOut, settles, contends}
@@ -39,7 +39,7 @@ module _ {V W : Type 0} (log given : W → List (ℕ × V)) (takes : W → ℕ �
     all = record {
       deals = (refl, refl, refl);
       both = both_still p.known legal;
-      brings = sym (append-nil (brought_in (queueing_in p) p));
+      brings = sym (append-nil (brought_in (queueing_seat p.known.seen p.known.number) p));
       kept = inl refl;
       gives = none a;
       log_is = refl;
@@ -59,7 +59,8 @@ module _ {V W : Type 0} (log given : W → List (ℕ × V)) (takes : W → ℕ �
   dealt_runs f runs = let k = dealt_stays f in rw (k.begun_same, k.ended_same) runs
 
   -- the same seat queues on
-  pub seat_still : {ps left : List (ℕ × V)} {a b : W} {old mid : KnownValuePair V} → DealtSofar ps left a b old mid → queueing_in mid ≡ queueing_in old
+  pub seat_still : {ps left : List (ℕ × V)} {a b : W} {old mid : KnownValuePair V} → DealtSofar ps left a b old mid
+      → queueing_seat mid.known.seen mid.known.number ≡ queueing_seat old.known.seen old.known.number
   seat_still f = let same = dealt_stays f in λ i. if same.phase.shut_same i then owner_seat else f.all.both.number_is i
 
   -- one pair more
@@ -69,7 +70,8 @@ module _ {V W : Type 0} (log given : W → List (ℕ × V)) (takes : W → ℕ �
   dealt_more {left = left} {q = q} {r = r} {k = k} {v = v} {es = es} {a = a} {b = b} {c = c} {old = old} {mid = mid} {new = new}
       f next one gives logged returned =
       let n = old.known.layout.items in let s = old.known.number in let t = f.all in let same = dealt_stays f in let seat = seat_still f in
-      let here : brought_in (queueing_in old) new ≡ brought_in (queueing_in old) mid ++ values_in q =
+      let seat_was = queueing_seat old.known.seen old.known.number in
+      let here : brought_in seat_was new ≡ brought_in seat_was mid ++ values_in q =
       subst (λ (z : ℕ). brought_in z new ≡ brought_in z mid ++ values_in q) seat one.brings in
       record {
         done = f.done ++ (k, v) ∷ [];
@@ -82,8 +84,8 @@ module _ {V W : Type 0} (log given : W → List (ℕ × V)) (takes : W → ℕ �
               (queues_since f.events 0 k es old.known mid.known t.both same one.queues) one.deals;
           both = both_on f.events es 0 0 old.known mid.known new.known t.both one.both;
           brings = here ∙ (ap (λ (z : List (Option V)). z ++ values_in q) t.brings ∙
-              (append_assoc (brought_in (queueing_in old) old) (values_in f.queued) (values_in q) ∙
-              ap (λ (z : List (Option V)). brought_in (queueing_in old) old ++ z) (sym (map-append (λ (p : ℕ × V). Some p.1) f.queued q))));
+              (append_assoc (brought_in seat_was old) (values_in f.queued) (values_in q) ∙
+              ap (λ (z : List (Option V)). brought_in seat_was old ++ z) (sym (map-append (λ (p : ℕ × V). Some p.1) f.queued q))));
           kept = kept_on old mid new t.kept one.kept;
           gives = given_on takes f.returned r a b c t.gives gives;
           log_is = logged ∙ t.log_is;

@@ -83,11 +83,13 @@ module _ {V W : Type 0} (given : W → List (ℕ × V)) (may : W → ℕ → V �
 
     -- what the queueing seat brought is as before the begin
     brings_fresh : (vs : List (Option V)) → Learnt (owner_in a) (owner_in m)
-        → own_brought (queueing_seat m) b.worker.seen b.brought ≡ own_brought (queueing_seat m) m.worker.seen m.brought ++ vs
-        → own_brought (queueing_seat a) b.worker.seen b.brought ≡ own_brought (queueing_seat a) a.worker.seen a.brought ++ vs
+        → own_brought (queueing_seat m.worker.seen m.worker.number) b.worker.seen b.brought
+        ≡ own_brought (queueing_seat m.worker.seen m.worker.number) m.worker.seen m.brought ++ vs
+        → own_brought (queueing_seat a.worker.seen a.worker.number) b.worker.seen b.brought
+        ≡ own_brought (queueing_seat a.worker.seen a.worker.number) a.worker.seen a.brought ++ vs
     brings_fresh vs learnt brings =
-        let c = queueing_seat a in
-        let same : queueing_seat m ≡ c = λ i. if shut_same i then owner_seat else g.begins.moves.number i in
+        let c = queueing_seat a.worker.seen a.worker.number in
+        let same : queueing_seat m.worker.seen m.worker.number ≡ c = λ i. if shut_same i then owner_seat else g.begins.moves.number i in
         let grown = seat_grown a.worker.number c to 0 a.worker.seen m.worker.seen (queueing_ours a.worker.number (shut a.worker.seen)) g.begins.moves.adds in
         let none = taking_accepts k c (next_of a.worker.seen) (shut a.worker.seen) in
         subst (λ (z : ℕ). own_brought z b.worker.seen b.brought ≡ own_brought z m.worker.seen m.brought ++ vs) same brings ∙

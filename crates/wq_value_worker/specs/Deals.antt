@@ -35,9 +35,9 @@ Deals {V} n s is_shut (p ∷ ps) es queued returned =
     (fs gs : List Event) × (q qs r rs : List (ℕ × V)) × (es ≡ fs ++ gs) × (queued ≡ q ++ qs) × (returned ≡ r ++ rs)
     × Queues n s is_shut p.0 fs × DealsOne p.0 p.1 fs q r × Deals n s is_shut ps gs qs rs
 
--- the seat that queues what an execution asks for: the sender's, and the owner's once the queue is shut
-abbrev pub queueing_seat : {V W : Type 0} → ValueWorkerState V W → ℕ
-queueing_seat w = if shut w.worker.seen then owner_seat else w.worker.number
+-- the seat that queues what an execution asks for, after h: that of the worker's sender s, and the owner's once the queue is shut
+abbrev pub queueing_seat : List Event → ℕ → ℕ
+queueing_seat h s = if shut h then owner_seat else s
 
 module _ {V W : Type 0} (given : W → List (ℕ × V)) (may : W → ℕ → V → List (ℕ × V) → W → Type 0) (takes : W → ℕ → V → W → Type 0) where
   -- The pairs ps are to be queued, after the events es, and the work is u. An item was run with the value that its own queueing
@@ -66,7 +66,8 @@ module _ {V W : Type 0} (given : W → List (ℕ × V)) (may : W → ℕ → V �
     pub deals : Deals a.worker.layout.items a.worker.number (shut a.worker.seen) done own queued returned
     pub adds : Adds a.worker.number (before ++ (own ++ after)) 0 a.worker.seen b.worker.seen
     pub last : accepted after ≡ []
-    pub brings : own_brought (queueing_seat a) b.worker.seen b.brought ≡ own_brought (queueing_seat a) a.worker.seen a.brought ++ values_in queued
+    pub brings : own_brought (queueing_seat a.worker.seen a.worker.number) b.worker.seen b.brought
+        ≡ own_brought (queueing_seat a.worker.seen a.worker.number) a.worker.seen a.brought ++ values_in queued
     pub gives : GivenBack takes returned ran b.worker.work
     pub given_is : given b.worker.work ≡ given a.worker.work ++ returned
 

@@ -1,8 +1,7 @@
 -- What the queueings of pairs do to an owner and a sender in one seat, and to the work.
-use Rattle.std.specs.Prelude.{◌≡◌, ℕ, ◌<◌, Bool, true, false, List, [], ◌∷◌, ◌++◌, Option, if◌then◌else◌}
+use Rattle.std.specs.Prelude.{◌≡◌, ℕ, ◌<◌, Bool, true, false, List, [], ◌∷◌, ◌++◌, Option}
 use Rattle.wq_words.specs.declared.event.Event.{Event}
 use Rattle.wq_words.specs.History.{shut}
-use Rattle.wq_words.specs.Seen.{owner_seat}
 use Rattle.wq_calls.specs.declared.value_answer.ValueAnswer.{ValueAnswer}
 use Rattle.wq_calls.specs.declared.value_answer.ValueAnswer.TheVariants as answer
 use Rattle.wq_values.specs.Answers.{IsContended}
@@ -13,7 +12,7 @@ use Rattle.wq_value_worker.specs.declared.value_steps.Dealt.TheVariants.{Queued,
 use Rattle.wq_worker.specs.Follow.{Queues, contended_of}
 use Rattle.wq_worker.specs.Pair.{Both, StaysOr}
 use Rattle.wq_value_worker.specs.Returned.{GivenBack, values_in}
-use Rattle.wq_value_worker.specs.Deals.{DealsOne, Deals}
+use Rattle.wq_value_worker.specs.Deals.{DealsOne, Deals, queueing_seat}
 
 -- what becomes of a pair by the answer to its queueing
 abbrev pub dealt_of : {V : Type 0} → ValueAnswer V → Dealt V
@@ -22,10 +21,6 @@ dealt_of (answer.Pending v) = Returned v
 dealt_of (answer.Closed v) = Returned v
 dealt_of (answer.Contended v) = Contended v
 dealt_of (answer.Draining v) = Returned v
-
--- the seat that queues what an execution asks for
-abbrev pub queueing_in : {V : Type 0} → KnownValuePair V → ℕ
-queueing_in p = if shut p.known.seen then owner_seat else p.known.number
 
 abbrev pub brought_in : {V : Type 0} → ℕ → KnownValuePair V → List (Option V)
 brought_in s p = own_brought s p.known.seen p.brought
@@ -36,7 +31,8 @@ pub record DealsPair {V : Type 0} (k : ℕ) (v : V) (es : List Event) (queued re
   pub queues : Queues old.known.layout.items old.known.number (shut old.known.seen) k es
   pub deals : DealsOne k v es queued returned
   pub both : Both es 0 old.known new.known
-  pub brings : brought_in (queueing_in old) new ≡ brought_in (queueing_in old) old ++ values_in queued
+  pub brings : brought_in (queueing_seat old.known.seen old.known.number) new
+      ≡ brought_in (queueing_seat old.known.seen old.known.number) old ++ values_in queued
   pub kept : StaysOr KeepsHanded old new
 
 -- the queueing of (k, v) was contended, with at least so many tries
@@ -44,7 +40,8 @@ pub record IsContendedPair {V : Type 0} (k tries : ℕ) (old new : KnownValuePai
   pub item : k < old.known.layout.items
   pub unshut : shut old.known.seen ≡ false
   pub both : Both (contended_of old.known.number k) tries old.known new.known
-  pub brings : brought_in (queueing_in old) new ≡ brought_in (queueing_in old) old
+  pub brings : brought_in (queueing_seat old.known.seen old.known.number) new
+      ≡ brought_in (queueing_seat old.known.seen old.known.number) old
   pub kept : KeepsHanded old new
   pub contended : IsContended old.known.number k tries new.known.seen
 
@@ -58,7 +55,8 @@ pub record BothDealAll {V W : Type 0} (log given : W → List (ℕ × V)) (takes
     (queued returned : List (ℕ × V)) (a b : W) (old new : KnownValuePair V) : Type 0 where
   pub deals : Deals old.known.layout.items old.known.number (shut old.known.seen) done es queued returned
   pub both : Both es 0 old.known new.known
-  pub brings : brought_in (queueing_in old) new ≡ brought_in (queueing_in old) old ++ values_in queued
+  pub brings : brought_in (queueing_seat old.known.seen old.known.number) new
+      ≡ brought_in (queueing_seat old.known.seen old.known.number) old ++ values_in queued
   pub kept : StaysOr KeepsHanded old new
   pub gives : GivenBack takes returned a b
   pub log_is : log b ≡ log a

@@ -1,5 +1,5 @@
-//! What follows from what the calls of a worker with values say, in the form in which a caller needs it. These functions compute
-//! nothing: each one's contract is a law, which a caller has in hand after the call.
+//! What follows from what the calls of a worker with values say, in the form in which a caller needs it. The function computes
+//! nothing: its contract is a law, which a caller has in hand after the call.
 ghost use mathlib.Core.List.{IsPrefix};
 ghost use Rattle.wq_values.specs.KnownWith.{Learnt, MatchesAccepted};
 ghost use Rattle.wq_value_worker.specs.Deals.{DealsInStep};

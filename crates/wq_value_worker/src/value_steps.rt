@@ -37,35 +37,35 @@ impl<V: Drop> Dealt<V> {
 }
 
 // Queues one pair, chained where the queue is shut.
-fn queue_pair<V: Drop>(pair: &mut ValuePair<V>, item: u32, value: V, tries: u32) -> Dealt<V>
-    requires runs { IsRunning pair.old.known.seen }
+fn queue_pair<V: Drop>(seats: &mut ValuePair<V>, item: u32, value: V, tries: u32) -> Dealt<V>
+    requires runs { IsRunning seats.old.known.seen }
     requires tries { 0 < tries }
-    ensures deals { BothDeal item value tries result pair.old pair.new }
+    ensures deals { BothDeal item value tries result seats.old seats.new }
 {
-    if item >= pair.layout().items {
+    if item >= seats.layout().items {
         return Dealt::Returned(value);
     }
-    if is_shut::<ValuePair<V>>(pair) {
-        return Dealt::of(pair.chain_value(item, value));
+    if is_shut::<ValuePair<V>>(seats) {
+        return Dealt::of(seats.chain_value(item, value));
     }
-    Dealt::of(pair.queue_value(item, value, tries))
+    Dealt::of(seats.queue_value(item, value, tries))
 }
 
 /// Queues the pairs in their order, and gives back to the work those that were not queued. False where one was contended: it is
 /// the first of those that are left then.
 pub(crate) fn queue_pairs<V: Drop, W: ValueWork<V>>(
-    pair: &mut ValuePair<V>,
+    seats: &mut ValuePair<V>,
     work: &mut W,
     left: &mut ValueFollow<V>,
     tries: u32,
 ) -> bool
-    requires legal { IsLegal pair.old.known.layout pair.old.known.seen }
-    requires runs { IsRunning pair.old.known.seen }
+    requires legal { IsLegal seats.old.known.layout seats.old.known.seen }
+    requires runs { IsRunning seats.old.known.seen }
     requires tries { 0 < tries }
-    ensures settles { BothDealOut W.log W.given W.takes tries result left.old.pairs left.new.pairs work.old work.new pair.old pair.new }
+    ensures settles { BothDealOut W.log W.given W.takes tries result left.old.pairs left.new.pairs work.old work.new seats.old seats.new }
 {
     while let Some((item, value)) = left.next() {
-        match queue_pair::<V>(pair, item, value, tries) {
+        match queue_pair::<V>(seats, item, value, tries) {
             Dealt::Queued => {}
             Dealt::Returned(same) => work.returned(item, same),
             Dealt::Contended(same) => {

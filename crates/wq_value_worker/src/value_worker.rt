@@ -147,6 +147,7 @@ impl<V: Drop, W: ValueWork<V>> ValueWorker<V, W> {
             Err(error) => Err(Unbuilt { work, error }),
         }
     }
+
     // Begins the oldest number and runs the work with the value that it brought.
     fn start(&mut self) -> Option<u32>
         requires { ¬ IsRunning self.old.worker.seen }
@@ -352,7 +353,7 @@ impl<V: Drop, W: ValueWork<V>> ValueWorker<V, W> {
         requires callable { FnOnceTakesAtMut F.FnOnce f self.old.worker.work }
         requires keeps { (v : W) → FnOnceReturnsAtMut F.FnOnce f self.old.worker.work tt v → W.log v ≡ W.log self.old.worker.work }
         ensures work { FnOnceReturnsAtMut F.FnOnce f self.old.worker.work tt self.new.worker.work }
-        ensures rest { self.new ≡ record self.old { worker = record self.old.worker { work = self.new.worker.work } } }
+        ensures else_same { self.new ≡ record self.old { worker = record self.old.worker { work = self.new.worker.work } } }
     {
         f(&mut self.work);
     }

@@ -14,13 +14,12 @@ pub use Rattle.wq_table.specs.Plays.{all_see}
 pub use Rattle.wq_table.specs.SlotChairs.{ValueStanding, knowing, part_in, standing_of, value_senders}
 pub use Rattle.wq_table.specs.Slots.{plain_view}
 pub use Rattle.wq_table.specs.declared.values.ValuePart.{ValuePart}
-pub use Rattle.wq_words.proofs.Closed.{closed_shuts}
 pub use Rattle.wq_words.proofs.Headlines.{keeps_headline}
 pub use Rattle.wq_words.proofs.Ranks.{slice_get-prefix}
 pub use Rattle.wq_words.proofs.Running.{runs_some}
 pub use Rattle.wq_words.proofs.Seen.{own-append}
 pub use Rattle.wq_words.specs.Headline.{KeepsHeadline}
-pub use Rattle.wq_words.specs.History.{Holds, IsRunning, accepted, pending, running}
+pub use Rattle.wq_words.specs.History.{Holds, IsRunning, accepted, begun, pending, running}
 pub use Rattle.wq_words.specs.Legal.{IsLegal}
 pub use Rattle.wq_words.specs.Numbers.{barrier_number, number_count}
 pub use Rattle.wq_words.specs.Valued.{AreBrought, IsLegalWith, with_values}

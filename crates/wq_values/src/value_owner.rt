@@ -212,7 +212,7 @@ impl<V: Drop> ValueOwner<V> {
     /// true, and begins again with a take. Its senders unpark it on `wakes` alone: once a rest, and not once an item. No
     /// wake-up is missed, which is not proved: a push that came before the rest makes it answer false, and then the owner does
     /// not park; the first push after it answers `wakes`, and its sender unparks the owner, also one that is yet to park. An
-    /// owner that never rests, as by `serve` of `wq_worker`, is to be woken on `first`, once a take.
+    /// owner that never rests, as by `serve` of `wq_value_worker`, is to be woken on `first`, once a take.
     pub fn rest(&mut self) -> bool
         requires open { ¬ IsShut self.old.known.seen }
         requires empty { batch self.old.known.seen ≡ [] }
@@ -233,8 +233,8 @@ impl<V: Drop> ValueOwner<V> {
         self.seat.rest()
     }
 
-    /// Queues an item with a value behind all that waits, from the execution that runs while the queue takes no push, draining or closed
-    /// (chain queueing in `drain_workqueue`). `Pending`, with the value, where its bit was set.
+    /// Queues an item with a value behind all that waits, from the execution that runs while the queue takes no push, draining or
+    /// closed (chain queueing in `drain_workqueue`). `Pending`, with the value, where its bit was set.
     pub fn chain_value(&mut self, item: u32, value: V) -> ValueAnswer<V>
         requires item { item < self.old.known.layout.items }
         requires shut { IsShut self.old.known.seen }
@@ -275,7 +275,7 @@ impl<V: Drop> ValueOwner<V> {
         ensures drained { IsTrue result ↔ (IsDraining self.now.known.seen × HasRunOut self.now.known.seen) }
         ensures all { IsTrue result → (ended self.now.known.seen ≡ begun self.now.known.seen)
             × (begun self.now.known.seen ≡ accepted self.now.known.seen) }
-        ensures rested { IsTrue result → (batch self.now.known.seen ≡ []) × (¬ IsRunning self.now.known.seen) }
+        ensures resumable { IsTrue result → (batch self.now.known.seen ≡ []) × (¬ IsRunning self.now.known.seen) }
         ensures finished { IsDraining self.now.known.seen → batch self.now.known.seen ≡ [] → ¬ IsRunning self.now.known.seen → IsTrue result }
     {
         self.seat.drained()
@@ -298,12 +298,7 @@ impl<V: Drop> ValueOwner<V> {
         ensures last { IsSome result → IsFinal self.now.known.layout self.now.known.seen }
         ensures finished { IsClosed self.now.known.seen → batch self.now.known.seen ≡ [] → ¬ IsRunning self.now.known.seen → IsSome result }
     {
-        if !self.seat.is_closed() || self.seat.row.count != 0 || self.seat.running.is_some() {
-            return None;
-        }
-        Some(Done {
-            ended: self.seat.counts.ended,
-        })
+        self.seat.done()
     }
 
     /// What it has counted of its own events.

@@ -48,7 +48,8 @@ impl<V: Drop> Model for ValuePair<V> {
 }
 
 impl<V: Drop> ValuePair<V> {
-    /// An owner and a sender become one seat, which has seen one history that goes on from what each had seen, and knows what was brought.
+    /// An owner and a sender become one seat, which has seen one history that goes on from what each had seen, and knows what
+    /// was brought.
     pub fn join(owner: ValueOwner<V>, sender: ValueSender<V>) -> ValuePair<V>
         requires one { sender.known.queue ≡ owner.known.queue }
         ensures owner { Sees [] 0 owner.known (pair_owner result.known) }
@@ -63,11 +64,7 @@ impl<V: Drop> ValuePair<V> {
         ValuePair {
             seat: OwnerSeat {
                 chair: seat.chair.join(chair),
-                layout: seat.layout,
-                row: seat.row,
-                running: seat.running,
-                phase: seat.phase,
-                counts: seat.counts,
+                ..seat
             },
             sent,
         }
@@ -90,11 +87,7 @@ impl<V: Drop> ValuePair<V> {
         let owner = ValueOwner {
             seat: OwnerSeat {
                 chair: first,
-                layout: seat.layout,
-                row: seat.row,
-                running: seat.running,
-                phase: seat.phase,
-                counts: seat.counts,
+                ..seat
             },
         };
         let sender = ValueSender {
@@ -147,7 +140,7 @@ impl<V: Drop> ValuePair<V> {
         ensures drained { IsTrue result ↔ (IsDraining self.now.known.seen × HasRunOut self.now.known.seen) }
         ensures all { IsTrue result → (ended self.now.known.seen ≡ begun self.now.known.seen)
             × (begun self.now.known.seen ≡ accepted self.now.known.seen) }
-        ensures rested { IsTrue result → (batch self.now.known.seen ≡ []) × (¬ IsRunning self.now.known.seen) }
+        ensures resumable { IsTrue result → (batch self.now.known.seen ≡ []) × (¬ IsRunning self.now.known.seen) }
         ensures finished { IsDraining self.now.known.seen → batch self.now.known.seen ≡ [] → ¬ IsRunning self.now.known.seen → IsTrue result }
     {
         self.seat.drained()

@@ -52,7 +52,7 @@ impl<V> Model for ValueSender<V> {
 }
 
 impl<V: Drop> ValueSender<V> {
-    /// Its number, which counts from 0 in the order of `build`.
+    /// Its number, which counts from 0 in the order of `build_values`.
     pub fn number(&self) -> u32
         ensures seat { result ≡ self.now.known.number }
     {
@@ -204,8 +204,8 @@ impl<V: Drop> ValueSender<V> {
     ///
     /// It wakes nobody, since it answers once the barrier has run: beside an owner that parks, and on a queue in a pool, it would
     /// wait for good. There, call `flush_begin`, wake whoever executes by its answer (one that rests before it parks on `wakes`,
-    /// one that serves by `serve` of `wq_worker` on `first`, a pool by its `wake`), and wait by `flush_done`. Within an execution
-    /// it would wait for that itself. A barrier behind the stop item waits until the queue is run on after it.
+    /// one that serves by `serve` of `wq_value_worker` on `first`, a pool by its `wake`), and wait by `flush_done`. Within an
+    /// execution it would wait for that itself. A barrier behind the stop item waits until the queue is run on after it.
     pub fn flush<R: Wait>(&mut self, rt: &R, barrier: u32) -> Answer
         requires barrier { barrier < self.old.known.layout.barriers }
         ensures answer { Answers (barrier_number self.old.known.layout barrier) 0 result self.old.known self.new.known }

@@ -258,9 +258,9 @@ impl<W: Work> Worker<W> {
     }
 
     /// Executes up to so many numbers, and answers how many executions ended. It stops at the limit, after the stop item,
-    /// where nothing waits, or where an execution is owed; the count does not tell these apart, as the answers of `run_one` do. No
-    /// time passes in it: a loop of one's own over this call, or over an
-    /// `Owner`, takes more at a time where it passes its `Spins` after fewer than `SHORT_TAKE` executions.
+    /// where nothing waits, or where an execution is owed; the count does not tell these apart, as the answers of `run_one` do.
+    /// It makes no pause: a loop of one's own over this call, or over an `Owner`, takes more at a time where it passes its `Spins`
+    /// after fewer than `SHORT_TAKE` executions.
     pub fn run_some(&mut self, limit: u32) -> u32
         ensures runs { RunsSome W.may limit result self.old self.new }
         ensures open { ¬ IsShut self.old.seen → ¬ IsShut self.new.seen }
@@ -280,7 +280,7 @@ impl<W: Work> Worker<W> {
     /// Closes the queue, also one that drains, takes all that stands on the list, and answers how many that is.
     pub fn close(&mut self) -> u32
         requires unclosed { ¬ IsClosed self.old.seen }
-        ensures work { (self.new.work ≡ self.old.work) × (self.new.unqueued ≡ self.old.unqueued) }
+        ensures work { LeavesWork self.old self.new }
         ensures events { Moves (Close ∷ []) 0 self.old self.new }
         ensures takes { TakesAll Close result self.new.seen }
         ensures closed { IsClosed self.new.seen }
@@ -320,7 +320,7 @@ impl<W: Work> Worker<W> {
         requires callable { FnOnceTakesAtMut F.FnOnce f self.old.work }
         requires keeps { (v : W) → FnOnceReturnsAtMut F.FnOnce f self.old.work tt v → W.log v ≡ W.log self.old.work }
         ensures work { FnOnceReturnsAtMut F.FnOnce f self.old.work tt self.new.work }
-        ensures rest { self.new ≡ record self.old { work = self.new.work } }
+        ensures else_same { self.new ≡ record self.old { work = self.new.work } }
     {
         f(&mut self.work);
     }
@@ -328,7 +328,7 @@ impl<W: Work> Worker<W> {
     /// The sender and both seats of the worker meet: afterwards each has seen all that they had seen.
     pub fn meet(&mut self, sender: &mut Sender)
         requires { sender.old.queue ≡ self.old.queue }
-        ensures work { (self.new.work ≡ self.old.work) × (self.new.unqueued ≡ self.old.unqueued) }
+        ensures work { LeavesWork self.old self.new }
         ensures worker { Moves [] 0 self.old self.new }
         ensures sender { Sees [] 0 sender.old sender.new }
         ensures own { own sender.old.number sender.new.seen ≡ own sender.old.number sender.old.seen }

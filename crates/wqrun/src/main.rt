@@ -11,8 +11,9 @@ use std::process::ExitCode;
 use std::sync::Wait;
 use std::thread::Threads;
 use wq_command_line::{Answer, Kind, Source, Task, task_of};
-use wq_commands::{Failure, WRONG_WORDS, check_main, end, history_main, script_main, steps_main};
+use wq_commands::{HistoryCommand, ScriptCommand, StepsCommand, check_main};
 use wq_live_command::live_main;
+use wq_subcommand::{Failure, WRONG_WORDS, end, subcommand_main};
 
 // The words of the command line, the program's own name first.
 fn command_words<R: Env + Alloc<A = Global>>(rt: &R) -> io::Result<Vec<String>> {
@@ -30,9 +31,9 @@ fn run_text<T: Threads + Wait + Sync, R: Read + Drop, O: Write, E: Write>(
     faults: &mut E,
 ) -> u8 {
     match task.kind {
-        Kind::Script => script_main(alloc, reader, output, faults),
-        Kind::Steps => steps_main(alloc, reader, output, faults),
-        Kind::History => history_main(alloc, reader, output, faults),
+        Kind::Script => subcommand_main(&ScriptCommand, alloc, reader, output, faults),
+        Kind::Steps => subcommand_main(&StepsCommand, alloc, reader, output, faults),
+        Kind::History => subcommand_main(&HistoryCommand, alloc, reader, output, faults),
         Kind::Live => live_main(threads, alloc, reader, output, faults),
         Kind::Check => match BufReader::new(alloc, reader) {
             Ok(reader) => check_main(alloc, reader, task.wants_drained, output, faults),

@@ -7,8 +7,9 @@ use std::io::{BufReader, Error, ErrorKind, Read, Result, Write};
 use std::process::Abort;
 use std::sync::Wait;
 use std::thread::Threads;
-use wq_commands::{Failure, check_main, end, history_main, script_main, steps_main};
+use wq_commands::{HistoryCommand, ScriptCommand, StepsCommand, check_main};
 use wq_live_command::live_main;
+use wq_subcommand::{Failure, end, subcommand_main};
 
 /// A subcommand.
 #[derive(Clone, Copy)]
@@ -105,9 +106,9 @@ fn run<T: Threads + Wait + Sync, R: Read + Drop, W: Write>(
 ) -> Ended {
     let mut faults = Vec::new(alloc);
     let status = match main {
-        Main::Script => script_main(alloc, reader, writer, &mut faults),
-        Main::Steps => steps_main(alloc, reader, writer, &mut faults),
-        Main::History => history_main(alloc, reader, writer, &mut faults),
+        Main::Script => subcommand_main(&ScriptCommand, alloc, reader, writer, &mut faults),
+        Main::Steps => subcommand_main(&StepsCommand, alloc, reader, writer, &mut faults),
+        Main::History => subcommand_main(&HistoryCommand, alloc, reader, writer, &mut faults),
         Main::Live => live_main(rt, alloc, reader, writer, &mut faults),
         Main::Check => match BufReader::new(alloc, reader) {
             Ok(reader) => check_main(alloc, reader, true, writer, &mut faults),
@@ -279,7 +280,13 @@ fn faults_fail(rt: HostRuntime) {
         taken: Vec::new(alloc),
         calls: 0,
     };
-    let status = script_main(alloc, b"wq 2\n".as_slice(), &mut output, &mut faults);
+    let status = subcommand_main(
+        &ScriptCommand,
+        alloc,
+        b"wq 2\n".as_slice(),
+        &mut output,
+        &mut faults,
+    );
     expect_same(&rt, status, 1);
     assert!(rt; output.is_empty());
     assert!(rt; faults.taken.is_empty());

@@ -22,6 +22,15 @@ fn are_contended(delay: &mut Delay, tick: u64) -> [bool; 3] {
     [armed, modified, advanced]
 }
 
+/// Queues the last item, which ends the other thread.
+fn queue_last(delay: &mut Delay) {
+    for _ in 0..u32::MAX {
+        if arm(delay, LAST, 0) != Some(Armed::Contended) {
+            break;
+        }
+    }
+}
+
 /// Makes the calls until each was contended, and then ends the other thread.
 fn contend<R: Clock>(rt: &R, delay: &mut Delay) -> [bool; 3] {
     let patience = Patience::begin(rt);
@@ -34,11 +43,7 @@ fn contend<R: Clock>(rt: &R, delay: &mut Delay) -> [bool; 3] {
         }
         pause();
     }
-    for _ in 0..u32::MAX {
-        if arm(delay, LAST, 0) != Some(Armed::Contended) {
-            break;
-        }
-    }
+    queue_last(delay);
     all
 }
 

@@ -1,7 +1,8 @@
 //! How many slots an advance looks at. That a table answers as a sorted list does is shown by scripts (`checks/random_delays.py`).
 use super::calls::{advance, arm, delayed};
 use crate::expect::expect_same;
-use wq_delay::Armed;
+use std::process::Abort;
+use wq_delay::{Armed, Delay};
 
 /// A jump, how many it pushed, refused and left waiting, and how many slots were looked at for it.
 type Jump = (u64, Option<(u32, u32, u32)>, u32);
@@ -15,12 +16,16 @@ const JUMPED: &[Jump] = &[
     (600, Some((0, 0, 0)), 0),
 ];
 
+fn arm_all<R: Abort>(rt: &R, delay: &mut Delay) {
+    for &(item, ticks) in &[(0, 256), (1, 1), (2, 257), (3, 512)] {
+        expect_same(rt, arm(delay, item, ticks), Some(Armed::OnTable));
+    }
+}
+
 #[test]
 fn looks_at_one_slot_a_tick(rt: HostRuntime) {
     let (_owner, _sender, mut delay) = delayed(rt.alloc(), 4, 0).expect(&rt, "seats");
-    for &(item, ticks) in &[(0, 256), (1, 1), (2, 257), (3, 512)] {
-        expect_same(&rt, arm(&mut delay, item, ticks), Some(Armed::OnTable));
-    }
+    arm_all(&rt, &mut delay);
     expect_same(&rt, delay.looked(), 0);
     for &(now, said, looked) in JUMPED {
         expect_same(&rt, advance(&mut delay, now), said);

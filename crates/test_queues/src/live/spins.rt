@@ -1,4 +1,4 @@
-//! How long a seat gives way, by the host's clock.
+//! That how long a seat gives way can be measured by the host's clock.
 use wq_live::Spins;
 
 /// A clock that answers is measured by: no error comes.

@@ -45,8 +45,26 @@ fn make_counted<R: Abort>(rt: &R, item: u32, number: u64, shared: &Arc<u32>) -> 
     }
 }
 
-/// Queues these items in order, each with a parcel of its own, and each again with what came back where it was contended, at most
-/// 1,000 times. Answers how many were queued.
+/// Queues an item with its value, and again with what came back where it was contended, at most 1,000 times. Whether it was queued.
+fn queue_tried(sender: &mut ValueSender<Counted>, item: u32, value: Counted) -> bool {
+    let mut next = Some(value);
+    for _ in 0..1000u32 {
+        let Some(value) = next else {
+            break;
+        };
+        if item >= sender.layout().items {
+            break;
+        }
+        let (answer, back) = given_back(sender.queue_value(item, value, 1000));
+        if let Answer::Queued { .. } = answer {
+            return true;
+        }
+        next = back;
+    }
+    false
+}
+
+/// Queues these items in order, each with a parcel of its own. Answers how many were queued.
 fn queue_all<R: Abort>(
     rt: &R,
     sender: &mut ValueSender<Counted>,
@@ -56,19 +74,9 @@ fn queue_all<R: Abort>(
 ) -> u32 {
     let mut queued = 0u32;
     for item in from..to {
-        let mut next = Some(make_counted(rt, item, u64::from(item), shared));
-        for _ in 0..1000u32 {
-            let Some(value) = next else {
-                break;
-            };
-            if item >= sender.layout().items {
-                return queued;
-            }
-            let (answer, back) = given_back(sender.queue_value(item, value, 1000));
-            if let Answer::Queued { .. } = answer {
-                queued = queued.wrapping_add(1);
-            }
-            next = back;
+        let value = make_counted(rt, item, u64::from(item), shared);
+        if queue_tried(sender, item, value) {
+            queued = queued.wrapping_add(1);
         }
     }
     queued

@@ -1,6 +1,6 @@
 use Rattle.std.proofs.Common.{◌≡◌, subst}
-use Rattle.wq_pool.specs.Known.{PoolState}
-use Rattle.wq_pool.specs.Finished.{BeginAsHandedIn}
+use Rattle.wq_value_pool.specs.Known.{PoolState}
+use Rattle.wq_value_pool.specs.Finished.{BeginAsHandedIn}
 use Rattle.example_log.specs.Quiet.{WritesInStep}
 use Rattle.example_log.proofs.Quiet.{State}
 use Rattle.example_log.proofs.logs.finish.Goals as goal

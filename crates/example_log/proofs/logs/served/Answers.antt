@@ -1,5 +1,5 @@
 use Rattle.std.proofs.Common.{◌≡◌, List, subst}
-use Rattle.wq_pool.specs.Finished.{BeginAsHandedIn}
+use Rattle.wq_value_pool.specs.Finished.{BeginAsHandedIn}
 use Rattle.example_log.specs.Quiet.{WritesInStep}
 use Rattle.example_log.proofs.Quiet.{Finished, asks_nothing, quiet_both}
 use Rattle.example_log.proofs.logs.served.Goals as goal

@@ -6,7 +6,8 @@ use std::io::{Error, ErrorKind, Read, Result, Write};
 use std::process::Abort;
 use std::sync::Wait;
 use std::thread::Threads;
-use wq_commands::script_main;
+use wq_commands::ScriptCommand;
+use wq_subcommand::subcommand_main;
 
 /// Gives a text one byte a call.
 #[derive(Drop)]
@@ -196,6 +197,12 @@ fn writer_takes_nothing(rt: HostRuntime) {
         let ended = run(&rt, rt.alloc(), row.main, row.text, &mut Full);
         assert!(rt; ended.is(1, b"output: Unwritable\n"));
     }
-    let status = script_main(rt.alloc(), b"".as_slice(), &mut Full, &mut Full);
+    let status = subcommand_main(
+        &ScriptCommand,
+        rt.alloc(),
+        b"".as_slice(),
+        &mut Full,
+        &mut Full,
+    );
     expect_same(&rt, status, 1);
 }

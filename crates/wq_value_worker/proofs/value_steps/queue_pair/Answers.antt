@@ -6,14 +6,14 @@ use Rattle.wq_value_worker.proofs.value_steps.queue_pair.Goals as goal
 
 pub returns-then-item-layout : goal.returns-then-item-layout
 returns-then-item-layout g c =
-    let a = c.args.pair.now in
+    let a = c.args.seats.now in
     let size : c.layout.result.items ≡ a.known.layout.items = ap (λ (l : Layout). l.items) c.layout.ensures.layout in
     let high : a.known.layout.items ≤ c.args.item = omega arith in
     record { deals = dealt_passed c.args.item c.args.value c.args.tries a high c.layout.ensures.legal }
 
 pub returns-then-is_shut : goal.returns-then-is_shut
 returns-then-is_shut g c =
-    let a = c.args.pair.now in let b = c.chain_value.new.self in let e = c.chain_value.ensures in
+    let a = c.args.seats.now in let b = c.chain_value.new.self in let e = c.chain_value.ensures in
     let size : c.layout.result.items ≡ a.known.layout.items = ap (λ (l : Layout). l.items) c.layout.ensures.layout in
     let low : c.args.item < a.known.layout.items = omega arith in let is_shut : shut a.known.seen ≡ true = sym c.is_shut.ensures ∙ c.if-is_shut.true in
     record {
@@ -24,7 +24,7 @@ returns-then-is_shut g c =
 
 pub returns : goal.returns
 returns g c =
-    let a = c.args.pair.now in let b = c.queue_value.new.self in let e = c.queue_value.ensures in
+    let a = c.args.seats.now in let b = c.queue_value.new.self in let e = c.queue_value.ensures in
     let size : c.layout.result.items ≡ a.known.layout.items = ap (λ (l : Layout). l.items) c.layout.ensures.layout in
     let low : c.args.item < a.known.layout.items = omega arith in let opens : shut a.known.seen ≡ false = sym c.is_shut.ensures ∙ c.if-is_shut.false in
     record {

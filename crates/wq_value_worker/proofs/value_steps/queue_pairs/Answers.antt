@@ -5,7 +5,7 @@ use Rattle.wq_value_worker.proofs.value_steps.queue_pairs.Goals as goal
 
 pub loop-item-init : goal.loop-item-init
 loop-item-init g c =
-    let w = g.W.ValueWork in dealt_none w.log w.given w.takes c.args.left.now.pairs c.args.work.now c.args.pair.now c.requires.legal
+    let w = g.W.ValueWork in dealt_none w.log w.given w.takes c.args.left.now.pairs c.args.work.now c.args.seats.now c.requires.legal
 
 pub queue_pair-requires-clause-runs : goal.queue_pair-requires-clause-runs
 queue_pair-requires-clause-runs g c = let w = g.W.ValueWork in dealt_runs w.log w.given w.takes c.loop-item.invariant c.requires.runs

@@ -28,8 +28,8 @@ returns-clause-all g c none = let s = owning c.args.self.now in let drains = c.i
     owner_all s (owner_view s) refl c.requires.owns.queue
     (drains.0, owner_ended s (owner_view s) refl c.requires.owns.queue drains.0 c.if-self-ne0.false (c.is_none.ensures ∙ ap not none))
 
-pub returns-clause-rested : goal.returns-clause-rested
-returns-clause-rested g c none = let s = owning c.args.self.now in let o = c.requires.owns.queue in
+pub returns-clause-resumable : goal.returns-clause-resumable
+returns-clause-resumable g c none = let s = owning c.args.self.now in let o = c.requires.owns.queue in
     (owner_empty s (owner_view s) refl o c.if-self-ne0.false, owner_quiet s (owner_view s) refl o (c.is_none.ensures ∙ ap not none))
 
 pub returns-clause-finished : goal.returns-clause-finished

@@ -1,0 +1,105 @@
+//! What ends the program without its result.
+ghost use Rattle.std.specs.Prelude.{◌≡◌};
+ghost use Rattle.wq_subcommand.specs.Failure.{status_of, of_read_error, of_parse_error, of_plan_error};
+ghost use Rattle.wq_subcommand.specs.declared.failure.Failure.TheVariants.{Memory};
+
+use crate::status::{FAILED, NO_MEMORY};
+use std::alloc::AllocError;
+use std::io;
+use thiserror::Error;
+use wq_meaning::RunError;
+use wq_plan::{PlanError, RaceError};
+use wq_text::{ParseError, ScriptError};
+
+/// Why a result was not written. The text is what standard error says. An error of reading words, a file or a stream is want
+/// of memory or says that it is unreadable.
+#[derive(Debug, Drop, Error)]
+pub enum Failure {
+    /// The text is no script, no schedule, or no recording.
+    #[error(transparent)]
+    Refused(ScriptError),
+    /// The text is no plan.
+    #[error(transparent)]
+    RefusedPlan(PlanError),
+    /// The file could not be read.
+    #[error("file: Unreadable")]
+    Unreadable,
+    /// The result could not be written.
+    #[error("output: Unwritable")]
+    Unwritable,
+    /// Want of memory, or of a thread.
+    #[error("memory")]
+    Memory,
+}
+
+impl Failure {
+    /// The exit status: 3 for want of memory or of a thread, else 1.
+    pub fn status(&self) -> u8
+        ensures { result ≡ status_of self.now }
+    {
+        match self {
+            Failure::Memory => NO_MEMORY,
+            Failure::Refused(_)
+            | Failure::RefusedPlan(_)
+            | Failure::Unreadable
+            | Failure::Unwritable => FAILED,
+        }
+    }
+}
+
+impl From<io::Error> for Failure {
+    ghost from_gives = { λ error failure. failure ≡ of_read_error error };
+
+    fn from(error: io::Error) -> Failure {
+        match error.kind() {
+            io::ErrorKind::OutOfMemory => Failure::Memory,
+            _ => Failure::Unreadable,
+        }
+    }
+}
+
+impl From<ParseError> for Failure {
+    ghost from_gives = { λ error failure. failure ≡ of_parse_error error };
+
+    fn from(error: ParseError) -> Failure {
+        match error {
+            ParseError::Refused(refusal) => Failure::Refused(refusal),
+            ParseError::Memory => Failure::Memory,
+        }
+    }
+}
+
+impl From<PlanError> for Failure {
+    ghost from_gives = { λ error failure. failure ≡ of_plan_error error };
+
+    fn from(error: PlanError) -> Failure {
+        match error {
+            PlanError::Memory => Failure::Memory,
+            refusal => Failure::RefusedPlan(refusal),
+        }
+    }
+}
+
+impl From<RunError> for Failure {
+    ghost from_gives = { λ _ failure. failure ≡ Memory };
+
+    fn from(_: RunError) -> Failure {
+        Failure::Memory
+    }
+}
+
+impl From<RaceError> for Failure {
+    ghost from_gives = { λ _ failure. failure ≡ Memory };
+
+    fn from(_: RaceError) -> Failure {
+        Failure::Memory
+    }
+}
+
+impl From<AllocError> for Failure {
+    ghost from_gives = { λ _ failure. failure ≡ Memory };
+
+    fn from(_: AllocError) -> Failure {
+        Failure::Memory
+    }
+}
