@@ -28,7 +28,14 @@ built() {
     if [ "${PROVED:-0}" = 1 ]; then over_proved; else rt lib --backend "$backend"; fi
 }
 
-(cd crates/wq_c && built >"$folder/said" 2>&1) || { tail -20 "$folder/said"; exit 1; }
+# rt builds in no folder with a link, and a run for crates/wq_c/out has left one there
+link=crates/wq_c/out/libyeangvos.so
+linked=$(readlink "$link" || true)
+rm -f "$link"
+status=0
+(cd crates/wq_c && built >"$folder/said" 2>&1) || status=$?
+[ -z "$linked" ] || ln -s "$linked" "$link"
+[ $status = 0 ] || { tail -20 "$folder/said"; exit 1; }
 rm -f "$folder/libyeangvos.a" "$folder/said"
 # by bare names, since a script of ar reads no path with a space or a letter of its own
 made=$(mktemp -d)
