@@ -1,10 +1,10 @@
 -- What the program makes of a script's text.
 use Rattle.std.specs.Prelude.{◌≡◌, ℕ, List}
 use Rattle.wq_text.specs.declared.script.Script.{Script}
-use Rattle.wq_text.specs.Script.{layout_of, commands_of}
-use Rattle.wq_meaning.specs.Commands.{output_of}
-use Rattle.wq_text.specs.Keyword.{script_lines}
-use Rattle.wq_text.specs.Text.{Spells, IsRefusal}
+use Rattle.wq_script.specs.Script.{layout_of, commands_of}
+use Rattle.wq_script.specs.Commands.{output_of}
+use Rattle.wq_script.specs.Keyword.{script_lines}
+use Rattle.wq_script.specs.Text.{Spells, IsRefusal}
 use Rattle.wq_subcommand.specs.declared.failure.Failure.{Failure}
 use Rattle.wq_subcommand.specs.declared.failure.Failure.TheVariants as failure
 

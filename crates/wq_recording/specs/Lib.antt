@@ -11,3 +11,15 @@ pub mod TraceReport
 pub mod Checking
 pub mod HistoryText
 pub mod ReadBack
+-- what its public clauses cite of the crates below, so that a caller names this crate alone
+pub use Rattle.wq_words.specs.Counting
+pub use Rattle.wq_text.specs.Fault
+pub use Rattle.wq_text.specs.Arguments
+pub use Rattle.wq_text.specs.Header
+pub use Rattle.wq_text.specs.Sound
+pub use Rattle.wq_text.specs.Line
+pub use Rattle.wq_text.specs.Schedule
+pub use Rattle.wq_meaning.specs.Report
+pub use Rattle.wq_check.specs.Causes
+pub use Rattle.wq_check.specs.Checked
+pub use Rattle.wq_check.specs.TraceChecked

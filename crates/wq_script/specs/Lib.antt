@@ -5,3 +5,16 @@ pub mod Arming
 pub mod Counting
 pub mod Engine
 pub mod Output
+-- what its public clauses cite of the crates below, so that a caller names this crate alone
+pub use Rattle.wq_words.specs.History
+pub use Rattle.wq_words.specs.Legal
+pub use Rattle.wq_words.specs.Numbers
+pub use Rattle.wq_words.specs.DelayTable
+pub use Rattle.wq_calls.specs.Known
+pub use Rattle.wq_text.specs.Script
+pub use Rattle.wq_text.specs.Fits
+pub use Rattle.wq_text.specs.Keyword
+pub use Rattle.wq_text.specs.Text
+pub use Rattle.wq_meaning.specs.Commands
+pub use Rattle.wq_meaning.specs.Execution
+pub use Rattle.wq_meaning.specs.Report

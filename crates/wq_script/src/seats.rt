@@ -10,7 +10,7 @@ ghost use Rattle.wq_script.specs.Seats.{StaysSilent, AllHear, IsSameTable, AreOn
 ghost use Rattle.wq_script.specs.Asking.{AsksOf, LooksAt, ClosesAs, DrainsNone, RunsAs};
 ghost use Rattle.wq_script.specs.Arming.{ArmsAs, CancelsAs, ModifiesAs, IsBackwards, IsPosted};
 ghost use Rattle.wq_words.specs.History.{pending, closed};
-ghost use Rattle.wq_words.specs.DelayTable.{on_table};
+ghost use Rattle.wq_delay.specs.DelayTable.{on_table};
 
 use crate::executing::execute_row;
 use crate::lists::Lists;
