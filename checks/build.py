@@ -5,7 +5,8 @@
 of its own below out/: a copy of its sources and of those of the crates below it, with what these have built as hard links. `rt` goes by
 what files say and not by when they were written, so the crates below count as built there, and the crate counts as built once its own
 `out` is back in the repository. A crate starts when those below it are built, first the one with the longest chain of crates above it.
-One at a time gets a job for each processor, up to four; the others run beside it, with a job each, on what it leaves.
+One at a time gets two jobs, and the others run beside it, with a job each, on what it leaves: a further job loads anew all that the
+crate stands on, which for the upper crates takes longer than their proofs.
 """
 import fcntl
 import os
@@ -29,7 +30,7 @@ MEMORY_OF_A_CRATE = 3 << 30
 # the provers at work
 RUNNING = set()
 BEFORE = """Proves wqrun and what it stands on, {count} crates, side by side on {processors} processors, and builds it.
-From nothing that took 17 minutes by the clock on four processors, 44 minutes of them, where it was measured; a busy or
+From nothing that took 11 minutes by the clock on four processors, 30 minutes of them, where it was measured; a busy or
 slow machine takes up to three times as long, and where nothing has changed it takes some seconds. All that is said goes
 into {log}."""
 
@@ -93,7 +94,8 @@ def prove(named, crate, is_first):
     """Proves and builds one crate in a tree of its own: whether it is proved, and what was said."""
     tree = make_tree(named, crate)
     move_out(crate, TOP, tree)
-    words = ["run" if crate == PROGRAM else "lib", "--jobs", str(min(crates_at_once(), 4) if is_first else 1)]
+    jobs = min(crates_at_once(), 2) if is_first and crate != PROGRAM else 1
+    words = ["run" if crate == PROGRAM else "lib", "--jobs", str(jobs)]
     words = ["nice", "-n", "0" if is_first else "10", "rt", *words, *["--", "--version"] * (crate == PROGRAM)]
     began = time.monotonic()
     pipes = {"stdout": subprocess.PIPE, "stderr": subprocess.PIPE, "text": True, "errors": "replace"}
