@@ -4,9 +4,10 @@
 `rt` locks every crate below the one that it checks, so two checks in one tree wait for each other. Here each crate is proved in a tree
 of its own below out/: a copy of its sources and of those of the crates below it, with what these have built as hard links. `rt` goes by
 what files say and not by when they were written, so the crates below count as built there, and the crate counts as built once its own
-`out` is back in the repository. A crate starts when those below it are built, first the one with the longest chain of crates above it.
-One at a time gets two jobs, and the others run beside it, with a job each, on what it leaves: a further job loads anew all that the
-crate stands on, which for the upper crates takes longer than their proofs.
+`out` is back in the repository. A crate starts when those below it are built, and the longer its chain of crates above it, the more of
+the processors it gets: the first of those that run gets two jobs, or more where nothing else waits for a processor, and each other one
+runs on what the one before it leaves. A further job loads anew all that the crate stands on, which for the program takes longer than
+its proof.
 """
 import fcntl
 import os
@@ -27,6 +28,10 @@ PARTS = ("src", "specs", "proofs")
 PROCESSORS = len(os.sched_getaffinity(0))
 # room for one check
 MEMORY_OF_A_CRATE = 3 << 30
+# before a crate's own lines all that it stands on is loaded, which takes about as long as the proof of so many of them
+LINES_OF_LOADING = 250
+# how much less of a processor a crate gets than the one before it, and the least that there is
+NICE_STEP, NICEST = 5, 15
 # the provers at work
 RUNNING = set()
 BEFORE = """Proves wqrun and what it stands on, {count} crates, side by side on {processors} processors, and builds it.
@@ -48,11 +53,11 @@ def with_below(named, crate):
 
 
 def chains(named, crates):
-    """How many lines of code the longest chain of crates has, from each crate upwards."""
+    """How long the longest chain of crates takes, from each crate upwards, in lines of code and of loading."""
     lines = {}
     for crate in reversed(crates):
         own = sum(it.read_text().count("\n") for it in (TOP / "crates" / crate / "src").rglob("*.rt"))
-        lines[crate] = own + max((lines[it] for it in crates if crate in named[it]), default=0)
+        lines[crate] = LINES_OF_LOADING + own + max((lines[it] for it in crates if crate in named[it]), default=0)
     return lines
 
 
@@ -90,13 +95,12 @@ def crates_at_once():
     return max(1, min(PROCESSORS, free // MEMORY_OF_A_CRATE))
 
 
-def prove(named, crate, is_first):
+def prove(named, crate, jobs, niceness):
     """Proves and builds one crate in a tree of its own: whether it is proved, and what was said."""
     tree = make_tree(named, crate)
     move_out(crate, TOP, tree)
-    jobs = min(crates_at_once(), 2) if is_first and crate != PROGRAM else 1
     words = ["run" if crate == PROGRAM else "lib", "--jobs", str(jobs)]
-    words = ["nice", "-n", "0" if is_first else "10", "rt", *words, *["--", "--version"] * (crate == PROGRAM)]
+    words = ["nice", "-n", str(niceness), "rt", *words, *["--", "--version"] * (crate == PROGRAM)]
     began = time.monotonic()
     pipes = {"stdout": subprocess.PIPE, "stderr": subprocess.PIPE, "text": True, "errors": "replace"}
     try:
@@ -119,14 +123,16 @@ def stop(number, _frame):
 
 def prove_all(named, crates, log):
     """Proves the crates side by side, with a line for each; whether all are proved."""
-    chain, left, built, running, first = chains(named, crates), set(crates), set(), {}, None
+    chain, left, built, running = chains(named, crates), set(crates), set(), {}
     most = crates_at_once()
     with ThreadPoolExecutor(most) as pool:
         while left or running:
             ready = sorted((it for it in left if built.issuperset(named[it])), key=chain.get, reverse=True)
+            others = len(running) + len(ready) - 1
             for crate in ready[: most - len(running)]:
-                first = first or crate
-                running[pool.submit(prove, named, crate, crate == first)] = crate
+                before = sum(chain[it] > chain[crate] for it in running.values())
+                jobs = 1 if before or crate == PROGRAM else min(most, max(2, most - others))
+                running[pool.submit(prove, named, crate, jobs, min(NICE_STEP * before, NICEST))] = crate
                 left.remove(crate)
             for it in wait(running, return_when=FIRST_COMPLETED).done:
                 (is_proved, said), crate = it.result(), running.pop(it)
@@ -135,7 +141,6 @@ def prove_all(named, crates, log):
                     print(f"{said}{crate} is not proved; what runs beside it comes to its end", flush=True)
                     return False
                 built.add(crate)
-                first = None if crate == first else first
                 print(f"{time.strftime('%H:%M:%S')} {len(built)} of {len(crates)}: {crate}", flush=True)
     return True
 

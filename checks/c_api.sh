@@ -166,6 +166,11 @@ for lines in "$work/lines" "$work/python_lines"; do
     grep -v "^thread" "$lines" | diff - <(for line in 4 5 6 7; do echo "again: thread 0 line $line"; done)
 done
 echo "loggers: each thread's lines in its order"
+"${CC:-cc}" "${strict[@]}" -o "$work/sensors" examples/c/sensors.c "$work/libyeangvos.a"
+for _ in $(seq 20); do
+    timeout 60 "$work/sensors" | diff - <(for sensor in 0 1 2; do echo "sensor $sensor: 1000"; done)
+done
+echo "sensors: an owner without a worker shows each thread's last value"
 if command -v rustc >/dev/null && rustc --version >/dev/null 2>&1; then
     rustc --edition 2021 -O -o "$work/rust" checks/c/client.rs -C link-arg="$work/libyeangvos.a"
     timeout 60 "$work/rust"

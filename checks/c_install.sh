@@ -20,7 +20,7 @@ for page in man/*.3; do
     done
 done
 install -D -m 644 -t "$to/share/doc/yeangvos" docs/C.md
-install -D -m 644 -t "$to/share/doc/yeangvos/examples/c" examples/c/logger.c examples/c/logger.py
+install -D -m 644 -t "$to/share/doc/yeangvos/examples/c" examples/c/logger.c examples/c/logger.py examples/c/sensors.c
 install -D -m 644 /dev/stdin "$to/lib/pkgconfig/yeangvos.pc" <<TEXT
 prefix=${prefix// /\\ }
 libdir=\${prefix}/lib
