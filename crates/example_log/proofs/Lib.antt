@@ -1,4 +1,3 @@
 pub mod Lines
-pub mod Quiet
 pub mod Messages
 pub mod Turned

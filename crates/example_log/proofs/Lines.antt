@@ -17,7 +17,7 @@ use Rattle.example_log.specs.declared.message.Log.{Log}
 use Rattle.example_log.specs.declared.message.Message.{Message}
 use Rattle.example_log.specs.Text.{Line, text_of}
 use Rattle.example_log.specs.Sent.{own_lines, lines_to, OnlyStops, StopsAlone}
-use Rattle.example_log.specs.Quiet.{IsQuiet}
+use Rattle.wq_value_pool.specs.Quiet.{IsQuiet}
 use Rattle.example_log.specs.Written.{HasLines}
 
 -- what a log has, from what its senders say
@@ -30,7 +30,7 @@ pub has_lines : (log : Log) (layout : Layout) (one two three : KnownWith Line) (
     → own_brought two.known.number w.book.book.seen w.book.brought ≡ own_lines two
     → accepted (own three.known.number w.book.book.seen) ≡ accepted (own three.known.number three.known.seen)
     → own_lines one ≡ map Some (lines_to log (take a first)) → own_lines two ≡ map Some (lines_to log (take b second))
-    → w.of_first ≡ a → w.of_second ≡ b → IsQuiet w.book.book.seen → HasLines log layout w.book.book.seen w.book.brought first second w
+    → w.of_first ≡ a → w.of_second ≡ b → IsQuiet 3 w.book.book.seen → HasLines log layout w.book.book.seen w.book.brought first second w
 has_lines log layout one two three last first second a b w size legal ended text zero one' two' sized stops mine theirs its sent_one sent_two
     first_is second_is quiet = record {
       legal = subst (λ (l : Layout). IsLegalWith l (with_values w.book.book.seen w.book.brought)) size legal;

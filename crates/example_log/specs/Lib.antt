@@ -1,4 +1,4 @@
 pub mod Sent
 pub mod Text
-pub mod Quiet
+pub mod Writing
 pub mod Written

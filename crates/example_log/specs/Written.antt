@@ -13,7 +13,7 @@ use Rattle.example_log.specs.declared.message.Message.{Message}
 use Rattle.example_log.specs.declared.ending.Written.{Written}
 use Rattle.example_log.specs.Text.{Line, text_of}
 use Rattle.example_log.specs.Sent.{lines_to, OnlyStops}
-use Rattle.example_log.specs.Quiet.{IsQuiet}
+use Rattle.wq_value_pool.specs.Quiet.{IsQuiet}
 
 -- A legal and complete history of the log's queue, with the lines that its events carry. The text is the lines of the items that
 -- were accepted, in order; each client's queueings brought the lines of those of its messages that it sent, in order; of the third
@@ -27,4 +27,4 @@ pub record HasLines (log : Log) (layout : Layout) (h : List Event) (brought : Li
   pub of_first : own_brought 0 h brought ≡ map Some (lines_to log (take written.of_first first))
   pub of_second : own_brought 1 h brought ≡ map Some (lines_to log (take written.of_second second))
   pub of_third : OnlyStops layout 2 h
-  pub of_worker : IsQuiet h
+  pub of_worker : IsQuiet 3 h

@@ -8,8 +8,8 @@ ghost use Rattle.wq_value_pool.specs.Valued.{IsLegalWith, with_values};
 ghost use Rattle.wq_value_pool.specs.OwnBrought.{own_brought};
 ghost use mathlib.Core.List.{IsPrefix};
 ghost use Rattle.wq_value_pool.specs.Returned.{pairs_of};
+ghost use Rattle.wq_value_pool.specs.Quiet.{IsQuiet};
 ghost use Rattle.example_log.specs.Sent.{own_lines};
-ghost use Rattle.example_log.specs.Quiet.{IsQuiet};
 ghost use Rattle.example_log.specs.Text.{text_of};
 
 use crate::error::LogError;
@@ -41,7 +41,7 @@ fn meet(
     ensures of_first { own_brought first.known.number book.new.book.seen book.new.brought ≡ own_lines first }
     ensures of_second { own_brought second.known.number book.new.book.seen book.new.brought ≡ own_lines second }
     ensures of_third { accepted (own third.known.number book.new.book.seen) ≡ accepted (own third.known.number third.known.seen) }
-    ensures of_worker { IsQuiet book.old.book.seen → IsQuiet book.new.book.seen }
+    ensures of_worker { IsQuiet 3 book.old.book.seen → IsQuiet 3 book.new.book.seen }
     ensures seen_by_first { IsPrefix first.known.seen book.new.book.seen }
     ensures seen_by_second { IsPrefix second.known.seen book.new.book.seen }
 {
@@ -60,7 +60,7 @@ pub(crate) fn ended(
 ) -> Result<Written, LogError>
     requires queue { (first.known.queue ≡ finished.1.book.queue) × (second.known.queue ≡ finished.1.book.queue)
         × (third.known.queue ≡ finished.1.book.queue) }
-    requires quiet { IsQuiet finished.1.book.seen }
+    requires quiet { IsQuiet 3 finished.1.book.seen }
     requires ran { finished.0.ran ≡ pairs_of (accepted finished.1.book.seen) finished.1.brought }
     ensures layout { IfOk result (λ w. w.book.book.layout ≡ finished.1.book.layout) }
     ensures legal { IfOk result (λ w. IsLegalWith w.book.book.layout (with_values w.book.book.seen w.book.brought)) }
@@ -69,7 +69,7 @@ pub(crate) fn ended(
     ensures of_first { IfOk result (λ w. own_brought first.known.number w.book.book.seen w.book.brought ≡ own_lines first) }
     ensures of_second { IfOk result (λ w. own_brought second.known.number w.book.book.seen w.book.brought ≡ own_lines second) }
     ensures of_third { IfOk result (λ w. accepted (own third.known.number w.book.book.seen) ≡ accepted (own third.known.number third.known.seen)) }
-    ensures of_worker { IfOk result (λ w. IsQuiet w.book.book.seen) }
+    ensures of_worker { IfOk result (λ w. IsQuiet 3 w.book.book.seen) }
     ensures counts { IfOk result (λ w. (w.of_first ≡ counts.0) × (w.of_second ≡ counts.1)) }
     ensures seen_by_first { IfOk result (λ w. IsPrefix first.known.seen w.book.book.seen) }
     ensures seen_by_second { IfOk result (λ w. IsPrefix second.known.seen w.book.book.seen) }

@@ -1,13 +1,15 @@
 //! The two logs and their pool.
 ghost use Rattle.std.specs.Prelude.{◌≡◌, ◌≤◌, ◌∷◌, [], All, IfOk, length};
+ghost use Rattle.std.specs.List.{AllByRecursion};
 ghost use Rattle.wq_value_pool.specs.History.{IsRunning, IsShut};
 ghost use Rattle.wq_value_pool.specs.Known.{IsCallerOf};
 ghost use Rattle.wq_value_pool.specs.Finished.{AreFinishedBy, BeginAsHandedIn};
+ghost use Rattle.wq_value_pool.specs.Quiet.{IsUnused, IsQuiet};
 ghost use Rattle.wq_value_pool.specs.WorkerId.{worker_id};
 ghost use Rattle.wq_value_pool.specs.ValueState.{HasRunPairs};
 ghost use Rattle.example_log.specs.declared.message.Log.TheVariants as log;
 ghost use Rattle.example_log.specs.Sent.{SendsUnlessTurned, AreNewClients, HaveSent};
-ghost use Rattle.example_log.specs.Quiet.{AreFresh, WritesInStep, IsQuiet};
+ghost use Rattle.example_log.specs.Writing.{WritesInStep};
 ghost use Rattle.example_log.specs.Written.{HasLines};
 
 use crate::clients::{Clients, SentAndStopped, clients_of, send_both};
@@ -18,10 +20,9 @@ use crate::writer::Writer;
 use std::alloc::Global;
 use std::sync::Wait;
 use std::thread::{Threads, join};
-use wq_value_pool::{Caller, NoGate, ValuePool, ValuePoolFault, ValueServed};
-use wq_value_worker::{ValueBook, ValueWorker, steps_go_on};
+use wq_value_pool::{Caller, NoGate, ValuePool, ValuePoolFault, ValueServed, nothing_is_queued};
+use wq_value_worker::{ValueBook, ValueWorker};
 use wq_words::Layout;
-use wq_worker::nothing_is_asked;
 
 // So many lines of each log are written at a time, where some are left at the end.
 const LINES: u32 = 1024;
@@ -69,7 +70,7 @@ fn new_logs(
         × (r.2.last.access.known.layout ≡ layout) × (r.2.last.errors.known.layout ≡ layout)) }
     ensures workers { IfOk result (λ r. All (IsCallerOf r.0.ready) r.1.items) }
     ensures clients { IfOk result (λ r. AreNewClients r.0.ready r.2) }
-    ensures fresh { IfOk result (λ r. AreFresh r.0.states) }
+    ensures fresh { IfOk result (λ r. AllByRecursion (λ old. IsUnused 3 old.worker) r.0.states) }
 {
     let (access, of_access) = ValueWorker::build(alloc, layout, Writer::new(alloc), 1)?;
     let (errors, of_errors) = ValueWorker::build(alloc, layout, Writer::new(alloc), 1)?;
@@ -150,16 +151,15 @@ fn served<R: Threads + Wait + Sync>(
     second: Vec<Message>,
 ) -> Result<((Finished, Finished), SentAndStopped), LogError>
     requires two { length pool.workers ≡ 2 }
-    requires fresh { AreFresh pool.states }
+    requires fresh { AllByRecursion (λ old. IsUnused 3 old.worker) pool.states }
     requires workers { All (IsCallerOf pool.ready) workers.items }
     requires clients { AreNewClients pool.ready clients }
     ensures finished { IfOk result (λ r. AreFinishedBy (λ b. b.book) (λ work b. HasRunPairs (λ w. w.ran) b.brought work b.book)
         pool.workers (r.0.0 ∷ r.0.1 ∷ [])) }
-    ensures quiet { IfOk result (λ r. IsQuiet r.0.0.1.book.seen × IsQuiet r.0.1.1.book.seen) }
+    ensures quiet { IfOk result (λ r. IsQuiet 3 r.0.0.1.book.seen × IsQuiet 3 r.0.1.1.book.seen) }
     ensures sent { IfOk result (λ r. HaveSent clients first.items second.items r.1) }
 {
-    steps_go_on::<Line, Writer>();
-    nothing_is_asked::<ValueWorker<Line, Writer>>();
+    nothing_is_queued::<Line, Writer>();
     let sent = serve(rt, &pool, workers, clients, first, second)?;
     let finished = finish(rt, pool)?;
     Ok((both_of(finished), sent))

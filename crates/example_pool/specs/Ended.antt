@@ -10,7 +10,7 @@ use Rattle.wq_live.specs.Known.{QueueId, IsSame, new_sender}
 use Rattle.wq_live.specs.Laws.{queued_number}
 use Rattle.wq_ready.specs.Known.{Identity, IsCallerOf}
 use Rattle.wq_worker.specs.State.{items_among}
-use Rattle.example_pool.specs.Clients.{ComesFromClients}
+use Rattle.wq_pool.specs.Quiet.{IsQuiet}
 use Rattle.example_pool.specs.declared.queueing.Seat.{Seat}
 use Rattle.example_pool.specs.declared.queueing.Line.{Line}
 use Rattle.example_pool.specs.declared.queueing.Told.{Told}
@@ -37,7 +37,7 @@ pub record HaveQueued (queue : QueueId) (first second : Told) : Type 0 where
 
 -- A legal and complete history of the very queue whose senders and whose work these are. All that was accepted began and
 -- ended, in order; the work ran the items of it; of each sender just those were accepted whose queueing was answered Queued; and
--- none was of the worker's own.
+-- none was of the worker's own, whose seats are sender 3 and the owner.
 pub record RanAll (layout : Layout) (h : List Event) (queue : Ended) : Type 0 where
   pub legal : IsLegal layout h
   pub complete : IsComplete h
@@ -48,4 +48,4 @@ pub record RanAll (layout : Layout) (h : List Event) (queue : Ended) : Type 0 wh
   pub all_ran : queue.work.ran.items ≡ items_among layout (accepted h)
   pub of_first : accepted (own 0 h) ≡ queued_number 0 queue.first.one ++ queued_number 1 queue.first.two
   pub of_second : accepted (own 1 h) ≡ queued_number 2 queue.second.one ++ queued_number 3 queue.second.two
-  pub of_worker : ComesFromClients h
+  pub of_worker : IsQuiet 3 h

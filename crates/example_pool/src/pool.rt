@@ -1,12 +1,14 @@
 //! The two queues and their pool.
 ghost use Rattle.std.specs.Prelude.{◌≡◌, ◌+◌, ◌<◌, ◌≤◌, ◌∷◌, [], All, IfOk, length};
+ghost use Rattle.std.specs.List.{AllByRecursion};
 ghost use Rattle.wq_pool.specs.History.{accepted, IsRunning, IsShut};
 ghost use Rattle.wq_pool.specs.Seen.{own};
 ghost use Rattle.wq_pool.specs.Known.{IsCallerOf};
 ghost use Rattle.wq_pool.specs.State.{items_among};
 ghost use Rattle.wq_pool.specs.Finished.{AreFinished, BeginAsHandedIn};
+ghost use Rattle.wq_pool.specs.Quiet.{IsUnused, IsQuiet};
 ghost use Rattle.wq_pool.specs.WorkerId.{worker_id};
-ghost use Rattle.example_pool.specs.Clients.{ComesFromClients, AreUnused, RunsInStep};
+ghost use Rattle.example_pool.specs.Runs.{RunsInStep};
 ghost use Rattle.example_pool.specs.Ended.{IsNewLine, HaveQueued, RanAll};
 
 use crate::queueing::{Line, Seat, Told, queue_all};
@@ -16,9 +18,9 @@ use std::sync::Wait;
 use std::thread::{Threads, join};
 use thiserror::Error;
 use wq_live::Sender;
-use wq_pool::{Caller, NoGate, Pool, PoolFault, Served};
+use wq_pool::{Caller, NoGate, Pool, PoolFault, Served, nothing_is_queued};
 use wq_words::Layout;
-use wq_worker::{Book, Unbuilt, Worker, nothing_is_asked};
+use wq_worker::{Book, Unbuilt, Worker};
 
 // So many numbers of each queue are executed at a time, where some are left at the end.
 const EXECUTIONS: u32 = 1024;
@@ -188,11 +190,11 @@ fn both_of(finished: Vec<(Runs, Book)>) -> ((Runs, Book), (Runs, Book))
 // Both queues at their end. Their works asked for nothing, so no worker queued a number of its own.
 fn finish_both<R: Wait>(rt: &R, pool: Pool<Runs>) -> Result<((Runs, Book), (Runs, Book)), RunError>
     requires two { length pool.workers ≡ 2 }
-    requires unused { AreUnused pool.states }
+    requires unused { AllByRecursion (IsUnused 3) pool.states }
     ensures finished { IfOk result (λ r. AreFinished (λ work. work.ran.items) pool.workers (r.0 ∷ r.1 ∷ [])) }
-    ensures of_workers { IfOk result (λ r. ComesFromClients r.0.1.seen × ComesFromClients r.1.1.seen) }
+    ensures of_workers { IfOk result (λ r. IsQuiet 3 r.0.1.seen × IsQuiet 3 r.1.1.seen) }
 {
-    nothing_is_asked::<Worker<Runs>>();
+    nothing_is_queued::<Runs>();
     let finished = finish(rt, pool)?;
     Ok(both_of(finished))
 }
@@ -203,7 +205,7 @@ fn meet(book: &mut Book, first: &mut Sender, second: &mut Sender)
     ensures same { (book.new.queue ≡ book.old.queue) × (book.new.layout ≡ book.old.layout) }
     ensures senders { (first.new.queue ≡ first.old.queue) × (second.new.queue ≡ second.old.queue) }
     ensures accepted { accepted book.new.seen ≡ accepted book.old.seen }
-    ensures of_worker { ComesFromClients book.old.seen → ComesFromClients book.new.seen }
+    ensures of_worker { IsQuiet 3 book.old.seen → IsQuiet 3 book.new.seen }
     ensures of_first { accepted (own first.old.number book.new.seen) ≡ accepted (own first.old.number first.old.seen) }
     ensures of_second { accepted (own second.old.number book.new.seen) ≡ accepted (own second.old.number second.old.seen) }
 {
@@ -215,7 +217,7 @@ fn meet(book: &mut Book, first: &mut Sender, second: &mut Sender)
 fn end_of(finished: (Runs, Book), told: (Told, Told)) -> Ended
     requires told { HaveQueued finished.1.queue told.0 told.1 }
     requires ran { finished.0.ran.items ≡ items_among finished.1.layout (accepted finished.1.seen) }
-    requires of_worker { ComesFromClients finished.1.seen }
+    requires of_worker { IsQuiet 3 finished.1.seen }
     ensures layout { result.book.layout ≡ finished.1.layout }
     ensures history { RanAll result.book.layout result.book.seen result }
 {

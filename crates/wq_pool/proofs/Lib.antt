@@ -3,3 +3,4 @@ pub mod Kept
 pub mod Hands
 pub mod Gathering
 pub mod GoingOn
+pub mod Quiet

@@ -5,6 +5,7 @@ pub mod Views
 pub mod Pool
 pub mod PoolView
 pub mod Finish
+pub mod Quiet
 -- what its public clauses cite of the crates below, so that a caller names this crate alone
 pub use Rattle.wq_words.specs.History
 pub use Rattle.wq_words.specs.Legal

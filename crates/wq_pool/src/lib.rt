@@ -3,6 +3,7 @@
 
 mod alias;
 mod finish;
+mod laws;
 mod pool;
 mod run;
 mod slots;
@@ -10,6 +11,7 @@ mod turn;
 
 pub use alias::{Pool, PoolFault, Turn, Worked};
 pub use finish::PoolFaultOf;
+pub use laws::nothing_is_queued;
 pub use pool::{PoolError, PoolOf};
 pub use turn::{TurnOf, WorkedOf};
 pub use wq_ready::{AnnounceError, Caller};

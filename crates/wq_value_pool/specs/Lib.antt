@@ -14,3 +14,4 @@ pub use Rattle.wq_value_worker.specs.Returned
 pub use Rattle.wq_turn.specs.WorkerId
 pub use Rattle.wq_pool.specs.Known
 pub use Rattle.wq_pool.specs.Finished
+pub use Rattle.wq_pool.specs.Quiet

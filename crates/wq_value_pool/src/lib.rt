@@ -5,5 +5,5 @@ mod alias;
 mod laws;
 
 pub use alias::{ValuePool, ValuePoolFault, ValueServed, ValueTurn, ValueWorked};
-pub use laws::brought_goes_on;
+pub use laws::{brought_goes_on, nothing_is_queued};
 pub use wq_pool::{AnnounceError, Caller, Gate, NoGate};

@@ -3,7 +3,7 @@ use Rattle.wq_pool.specs.Known.{PoolState}
 use Rattle.wq_pool.specs.Finished.{BeginAsHandedIn}
 use Rattle.wq_worker.specs.State.{WorkerState}
 use Rattle.example_pool.specs.declared.work.Runs.{Runs}
-use Rattle.example_pool.specs.Clients.{RunsInStep}
+use Rattle.example_pool.specs.Runs.{RunsInStep}
 use Rattle.example_pool.proofs.pool.finish.Goals as goal
 
 pub returns-in-Ok-clause-begins : goal.returns-in-Ok-clause-begins
