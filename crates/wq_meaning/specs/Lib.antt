@@ -9,3 +9,9 @@ pub mod Order
 pub mod Replies
 pub mod ScheduleOutput
 pub mod ScheduleHistory
+-- what its public clauses cite of the crates below, so that a caller names this crate alone
+pub use Rattle.wq_words.specs.Legal
+pub use Rattle.wq_core.specs.Machine
+pub use Rattle.wq_core.specs.Made
+pub use Rattle.wq_text.specs.Script
+pub use Rattle.wq_text.specs.Schedule

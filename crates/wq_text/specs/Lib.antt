@@ -13,3 +13,6 @@ pub mod Sound
 pub mod Turn
 pub mod Turns
 pub mod Schedule
+-- what its public clauses cite of the crates below, so that a caller names this crate alone
+pub use Rattle.wq_words.specs.Limits
+pub use Rattle.wq_words.specs.Numbers
