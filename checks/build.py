@@ -5,9 +5,9 @@
 of its own below out/: a copy of its sources and of those of the crates below it, with what these have built as hard links. `rt` goes by
 what files say and not by when they were written, so the crates below count as built there, and the crate counts as built once its own
 `out` is back in the repository. A crate starts when those below it are built, and the longer its chain of crates above it, the more of
-the processors it gets: the first of those that run gets two jobs, or more where nothing else waits for a processor, and each other one
-runs on what the one before it leaves. A further job loads anew all that the crate stands on, which for the program takes longer than
-its proof.
+the processors it gets: the first of those that run gets two jobs, or more where it stands on no other crate or nothing else waits for
+a processor, and each other one runs on what those before it leave. A further job loads anew all that the crate stands on, which for the
+program takes longer than its proof.
 """
 import fcntl
 import os
@@ -131,7 +131,7 @@ def prove_all(named, crates, log):
             others = len(running) + len(ready) - 1
             for crate in ready[: most - len(running)]:
                 before = sum(chain[it] > chain[crate] for it in running.values())
-                jobs = 1 if before or crate == PROGRAM else min(most, max(2, most - others))
+                jobs = 1 if before or crate == PROGRAM else min(most, max(2 if named[crate] else 3, most - others))
                 running[pool.submit(prove, named, crate, jobs, min(NICE_STEP * before, NICEST))] = crate
                 left.remove(crate)
             for it in wait(running, return_when=FIRST_COMPLETED).done:
