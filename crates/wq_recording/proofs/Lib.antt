@@ -6,6 +6,7 @@ pub mod Stages
 pub mod LineParts
 pub mod Reading
 pub mod ReadThrough
+pub mod Saying
 pub mod Telling
 pub mod LeftNumbers
 pub mod FirstLine

@@ -1,14 +1,14 @@
 -- What the parts of a line come to.
-use Rattle.std.proofs.Common.{◌≡◌, ◌≢◌, ℕ, ◌+◌, ◌-◌, ◌<◌, ◌≤◌, ◌⊎◌, ◌||◌, Bool, true, false, List, ◌++◌, All, Option, Some, None, OnSome, IsTrue, ◌↔◌, length}
-use Rattle.std.proofs.Common.{take, drop, slice_index, nat_lt, get_or, inl, inr, refl, sym, ap, subst, ◌∙◌, arith, length-append, length-take-le, get_or-take}
+use Rattle.std.proofs.Common.{◌≡◌, ◌≢◌, ℕ, ◌+◌, ◌-◌, ◌<◌, ◌≤◌, ◌⊎◌, ◌||◌, Bool, true, false, List, [], ◌++◌, All, Option, Some, None, OnSome, Result, Ok, Err, IfOk, IsTrue, ◌↔◌, length}
+use Rattle.std.proofs.Common.{take, drop, slice_index, nat_lt, get_or, inl, inr, refl, le_refl, sym, ap, subst, ◌∙◌, arith, length-append, length-take-le, get_or-take}
 use Rattle.std.proofs.lemmas.Bool.{ltb-true}
 use Rattle.wq_words.proofs.Common.{cases_lt}
-use Rattle.std.proofs.lemmas.List.{append-nil, get_or-append-add, take-take}
+use Rattle.std.proofs.lemmas.List.{append-nil, get_or-append-add, take-take, drop_all}
 use Rattle.std.proofs.Math.Seq.{take-append_seam, drop-append_seam, take-append-add}
 use Rattle.std.proofs.lemmas.List.Elements.{All-append, All-more, All-take}
-use Rattle.std.specs.Io.{StartsWith, StopsAt, IsEmptyOrEndsWith}
-use Rattle.std.specs.Io.KnownBytes.{Consumes, IsAtEnd}
-use Rattle.std.proofs.KnownBytes.{starts_with_rest, Consumes-trans}
+use Rattle.std.specs.Io.{StartsWith, StopsAt, IsEmptyOrEndsWith, appended_bytes}
+use Rattle.std.specs.Io.KnownBytes.{Consumes, IsAtEnd, Keeps}
+use Rattle.std.proofs.KnownBytes.{starts_with_rest, Consumes-nil, Consumes-kept, Consumes-trans}
 use Rattle.wq_recording.specs.Lines.{EndsWithLf, LineEnds, EndsOrGoesOn}
 
 -- n bytes of those at hand, behind the bytes of a line
@@ -94,6 +94,23 @@ module _ (old bytes : List ℕ) (n : ℕ) (within : n ≤ length bytes) where
     | inl some ↦ read_some known left none before some ends long is same
     | inr zero ↦ read_none known left ends long (omega arith) room is full end
   ]
+
+-- a line to which nothing came
+module _ (line new : List ℕ) (same : new ≡ line) (none : All (λ x. x ≢ 10) line) where
+  pub same_stops : StopsAt new 10
+  same_stops = subst (λ l. StopsAt l 10) (sym same) (All-take (λ x. x ≢ 10) (length line - 1) line none)
+
+  pub same_bytes : (known left : Option (List ℕ)) → Keeps known left → Consumes known left (appended_bytes line new)
+  same_bytes known left keeps =
+      let nothing : appended_bytes line new ≡ [] = ap (drop (length line)) same ∙ drop_all (length line) line (le_refl (length line)) in
+      subst (Consumes known left) (sym nothing) (Consumes-kept known known left [] (Consumes-nil known) keeps)
+
+  pub same_done : {E : Type 0} (known left : Option (List ℕ)) (r : Result Bool E) → IfOk r (λ done. done ≡ false)
+      → IfOk r (λ done. EndsOrGoesOn done new known left)
+  same_done known left (Ok done) is =
+      let P : List ℕ → Type 0 = λ l. All (λ x. x ≢ 10) l in
+      subst (λ b. EndsOrGoesOn b new known left) (sym is) (subst P (sym same) none)
+  same_done known left (Err e) is = tt
 
 -- a part behind the bytes of a line
 pub read_on : (a b c : Option (List ℕ)) (old new : List ℕ) → Consumes a b old → StartsWith new old → Consumes b c (drop (length old) new) → Consumes a c new

@@ -111,14 +111,17 @@ fn numbers_of(
         }
         Telling::Back(_) => seat_and_number(layout, first, without_last(words)),
         Telling::Take | Telling::Close | Telling::Drain | Telling::Resume | Telling::Rest => {
-            no_word(words).map(|()| (0, 0))
+            no_word(words)?;
+            Ok((0, 0))
         }
-        Telling::Begin | Telling::End => one_word(words)
-            .and_then(|word| number_of_queue(layout, word))
-            .map(|number| (0, number)),
-        Telling::Chain | Telling::ChainBusy => one_word(words)
-            .and_then(|word| item(layout, word))
-            .map(|number| (0, number)),
+        Telling::Begin | Telling::End => {
+            let word = one_word(words)?;
+            Ok((0, number_of_queue(layout, word)?))
+        }
+        Telling::Chain | Telling::ChainBusy => {
+            let word = one_word(words)?;
+            Ok((0, item(layout, word)?))
+        }
     }
 }
 

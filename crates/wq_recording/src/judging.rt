@@ -4,11 +4,12 @@ ghost use Rattle.std.specs.Io.KnownBytes.{Consumes};
 ghost use Rattle.wq_text.specs.declared.fault.ParseError.TheVariants.{Refused};
 ghost use Rattle.wq_text.specs.declared.header.Stage.{Stage as Awaited};
 ghost use Rattle.wq_text.specs.declared.header.Stage.TheVariants.{Commands};
-ghost use Rattle.wq_text.specs.Fault.{LineFailsAs, IfRefused};
+ghost use Rattle.wq_text.specs.Fault.{LineFailsAs};
 ghost use Rattle.wq_text.specs.Header.{layout_at};
 ghost use Rattle.wq_text.specs.Line.{line_gives};
 ghost use Rattle.wq_text.specs.Sound.{SoundAt};
 ghost use Rattle.wq_words.specs.declared.layout.Layout.{Layout as Numbers};
+ghost use Rattle.wq_recording.specs.declared.error.CheckError.TheVariants.{Text};
 ghost use Rattle.wq_recording.specs.Lines.{IsLineRead};
 ghost use Rattle.wq_recording.specs.Checking.{IsReadThrough, IsReadToFault};
 ghost use Rattle.wq_recording.specs.Judging.{HasTold, IsMadeAt, ComesTo, IfTextRefused, refusal_of};
@@ -106,18 +107,18 @@ fn tell_line<L: Recording>(
     Ok(told)
 }
 
-fn refused(line: u64, kind: Kind) -> ParseError
-    ensures { result ≡ Refused (record { line = line; kind = kind }) }
+fn refused(line: u64, kind: Kind) -> CheckError
+    ensures { result ≡ Text (Refused (record { line = line; kind = kind })) }
 {
-    ParseError::Refused(ScriptError { line, kind })
+    CheckError::Text(ParseError::Refused(ScriptError { line, kind }))
 }
 
 // Why this line could not be read.
-fn refusal(line: u64, error: LineError) -> ParseError
-    ensures { result ≡ refusal_of line error }
+fn refusal(line: u64, error: LineError) -> CheckError
+    ensures { result ≡ Text (refusal_of line error) }
 {
     match error {
-        LineError::Memory => ParseError::Memory,
+        LineError::Memory => CheckError::Text(ParseError::Memory),
         LineError::Fault(kind) => refused(line, kind),
     }
 }
@@ -129,13 +130,13 @@ fn last<L: Recording>(
     stage: Stage,
     checker: Option<L::Checker>,
     rest: &[u8],
-) -> Result<Finding, ParseError>
+) -> Result<Finding, CheckError>
     requires { IsMadeAt L.layout_of stage checker }
     ensures whole { IfOk result (λ _. rest.now ≡ []) }
     ensures stop { IfOk result (λ finding. finding.stop ≡ None) }
     ensures found { IfOk result (λ finding. (layout : Numbers) × (layout_at stage ≡ Some layout) × ((h : List L.Event) → HasTold L.is_after checker h
         → L.rules.IsLegal layout h × SaysOf L.rules (verdict_of layout h None) finding)) }
-    ensures refused { IfRefused result (λ e. (e.line ≡ number) × (last_fault stage rest.now ≡ Some e.kind)) }
+    ensures refused { IfErr result (λ error. IfTextRefused error (λ e. (e.line ≡ number) × (last_fault stage rest.now ≡ Some e.kind))) }
 {
     if rest.len() > MOST_BYTES {
         return Err(refused(number, Kind::Size));
@@ -145,8 +146,7 @@ fn last<L: Recording>(
     }
     let layout = layout_at_end(number, stage)?;
     let checker = made::<L>(alloc, checker, layout)?;
-    let finding = found::<L>(alloc, layout, &checker, None)?;
-    Ok(finding)
+    found::<L>(alloc, layout, &checker, None)
 }
 
 /// What is said of a recording of which this line was read.
@@ -157,30 +157,23 @@ pub(crate) fn judge<L: Recording, B: BufRead>(
 ) -> Result<Finding, CheckError>
     ensures found { (known : Option (List ℕ)) → Consumes known (B.remaining reader.old) line.old.items
         → IsLineRead line.old.items known (B.remaining reader.old)
-        → IfOk result (λ finding. IfSome known (λ text. Finds (recording_line L.grammar) L.rules text finding)) }
+        → IfOk result (λ finding. IfSome known (λ text. Finds (recording_line L.grammar) L.rules text finding
+        × IsSomeAnd (B.remaining reader.new) (IsReadThrough finding.stop text))) }
     ensures refused { (known : Option (List ℕ)) → Consumes known (B.remaining reader.old) line.old.items
         → IsLineRead line.old.items known (B.remaining reader.old)
-        → IfErr result (λ error. IfSome known (λ text. IfTextRefused error (IsRefusedText (recording_line L.grammar) L.rules text))) }
-    ensures read { (known : Option (List ℕ)) → Consumes known (B.remaining reader.old) line.old.items
-        → IsLineRead line.old.items known (B.remaining reader.old)
-        → IfOk result (λ finding. IfSome known (λ text. IsSomeAnd (B.remaining reader.new) (IsReadThrough finding.stop text))) }
-    ensures stops { (known : Option (List ℕ)) → Consumes known (B.remaining reader.old) line.old.items
-        → IsLineRead line.old.items known (B.remaining reader.old)
-        → IfErr result (λ error. IfSome known (λ text. IfTextRefused error (λ e. IsSomeAnd (B.remaining reader.new) (IsReadToFault e text)))) }
+        → IfErr result (λ error. IfSome known (λ text. IfTextRefused error (λ e. IsRefusedText (recording_line L.grammar) L.rules text e
+        × IsSomeAnd (B.remaining reader.new) (IsReadToFault e text)))) }
 {
     let mut stage = Stage::Version;
     let mut checker: Option<L::Checker> = None;
     for number in 1..u64::MAX {
         let text = match part_of(line) {
             Part::Line(text) => text,
-            Part::Rest(rest) => {
-                let finding = last::<L>(alloc, number, stage, checker, rest)?;
-                return Ok(finding);
-            }
+            Part::Rest(rest) => return last::<L>(alloc, number, stage, checker, rest),
         };
         let told = match tell_line::<L>(alloc, stage, &mut checker, text) {
             Ok(told) => told,
-            Err(error) => return Err(CheckError::Text(refusal(number, error))),
+            Err(error) => return Err(refusal(number, error)),
         };
         match told {
             Told::On(next) => stage = next,
@@ -190,8 +183,7 @@ pub(crate) fn judge<L: Recording, B: BufRead>(
                     cause,
                 };
                 let checker = checker.unwrap();
-                let finding = found::<L>(alloc, layout, &checker, Some(stop))?;
-                return Ok(finding);
+                return found::<L>(alloc, layout, &checker, Some(stop));
             }
         }
         next_line(reader, line)?;

@@ -1,5 +1,5 @@
 //! The lines of a reader's bytes, one at a time: no more of them is held than one line.
-ghost use Rattle.std.specs.Prelude.{◌≡◌, ◌≢◌, ◌↔◌, ◌-◌, ◌<◌, ◌≤◌, All, length, take, slice_index, IsTrue, IfOk, OnOk};
+ghost use Rattle.std.specs.Prelude.{◌≡◌, ◌≢◌, ◌↔◌, ◌-◌, ◌<◌, ◌≤◌, All, length, take, slice_index, false, IsTrue, IfOk, OnOk};
 ghost use Rattle.std.specs.Io.{StartsWith, StopsAt, IsEmptyOrEndsWith, appended_bytes};
 ghost use Rattle.std.specs.Io.KnownBytes.{Consumes};
 ghost use Rattle.wq_recording.specs.Lines.{IsLineRead, EndsOrGoesOn};
@@ -35,6 +35,17 @@ fn is_end(part: &[u8]) -> bool
     }
 }
 
+// A read that was interrupted is made again: the line goes on.
+fn unless_interrupted(error: io::Error) -> io::Result<bool>
+    ensures { IfOk result (λ done. done ≡ false) }
+{
+    if error.kind() == ErrorKind::Interrupted {
+        Ok(false)
+    } else {
+        Err(error)
+    }
+}
+
 // Appends what the reader has at hand of a line that is not whole. Whether it has come to its LF, to a byte too many, or to
 // the end of the input.
 fn append_part<B: BufRead>(reader: &mut B, line: &mut Vec<u8>) -> io::Result<bool>
@@ -48,13 +59,7 @@ fn append_part<B: BufRead>(reader: &mut B, line: &mut Vec<u8>) -> io::Result<boo
 {
     let bytes = match reader.fill_buf() {
         Ok(bytes) => bytes,
-        Err(error) => {
-            return if error.kind() == ErrorKind::Interrupted {
-                Ok(false)
-            } else {
-                Err(error)
-            };
-        }
+        Err(error) => return unless_interrupted(error),
     };
     let count = part_len(bytes, MOST_BYTES + 1 - line.len());
     line.extend_from_slice(&bytes[..count])?;

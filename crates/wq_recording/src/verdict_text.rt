@@ -1,9 +1,12 @@
 //! How a verdict is written.
-ghost use Rattle.std.specs.Prelude.{◌≡◌, ◌++◌, ℕ, List, codes, IfOk, OnOk, string_bytes};
+ghost use Rattle.std.specs.Prelude.{◌≡◌, ◌++◌, ℕ, List, codes, IfOk, IfErr, OnOk, string_bytes};
 ghost use Rattle.wq_words.specs.Counting.{capped};
 ghost use Rattle.wq_meaning.specs.Report.{line};
+ghost use Rattle.wq_text.specs.declared.fault.ParseError.TheVariants.{Memory};
+ghost use Rattle.wq_recording.specs.declared.error.CheckError.TheVariants.{Text};
 ghost use Rattle.wq_recording.specs.VerdictText.{cause_text, verdict_head, verdict_of, verdict_text, SaysOf};
 
+use crate::error::CheckError;
 use crate::finding::Finding;
 use crate::recording::Recording;
 use crate::stop::Stop;
@@ -98,9 +101,10 @@ pub(crate) fn found<L: Recording>(
     layout: Layout,
     checker: &L::Checker,
     stop: Option<Stop>,
-) -> Result<Finding, AllocError>
+) -> Result<Finding, CheckError>
     ensures says { IfOk result (λ finding. (h : List L.Event) → L.is_after checker.now h → SaysOf L.rules (verdict_of layout h stop) finding) }
     ensures stop { IfOk result (λ finding. finding.stop ≡ stop) }
+    ensures memory { IfErr result (λ error. error ≡ Text Memory) }
 {
     let mut out = String::new(alloc);
     write_verdict::<L>(alloc, &layout, checker, stop, &mut out)?;

@@ -1,12 +1,13 @@
 use Rattle.wq_recording.proofs.Common.{◌≡◌, ℕ, List, [], Some, Ok, Err, sym, ap, subst, ◌∙◌, refl, line_gives, short_line, last_fault, IsRefusedText, IsMadeAt, ScriptError, Stage}
 use Rattle.std.specs.Prelude.{IsSomeAnd}
-use Rattle.std.proofs.lemmas.Result.{err_from_is_err_and}
+use Rattle.std.proofs.lemmas.Result.{err_from_is_err_and, IfErr-weaker}
 use Rattle.wq_text.specs.Sound.{SoundAt}
 use Rattle.wq_recording.specs.Checking.{IsReadToFault}
 use Rattle.wq_recording.specs.Judging.{refusal_of}
 use Rattle.wq_recording.specs.Lines.{EndsWithLf}
 use Rattle.wq_recording.proofs.Reading.{reads_start, reads_on, reads_stop, reads_fault, reads_rest, reads_all, refused_if, refused_by_line}
 use Rattle.wq_recording.proofs.ReadThrough.{read_to_end, read_to_stop, read_to_fault, read_to_rest}
+use Rattle.wq_recording.proofs.Saying.{both_known, ok_by_two, ok_by_three, refused_text, says_nothing}
 use Rattle.wq_recording.proofs.judging.judge.Goals as goal
 
 pub loop-number-init : goal.loop-number-init
@@ -19,33 +20,42 @@ loop-number-init g c =
           (g.B.Read.remaining c.args.reader.now) c.args.line.now.items taken got;
     }
 
-pub returns-in_err-finding-in-Rest-clause-refused : goal.returns-in_err-finding-in-Rest-clause-refused
-returns-in_err-finding-in-Rest-clause-refused g c = λ known taken got.
-    let r = g.L.Recording in
-    let laws = g.met.L.Recording in
-    let l = c.loop-number in
-    let line = l.line.items in
-    let gives = line_gives g.L.Language.grammar in
-    let is : c.in-Rest.rest.now ≡ line = c.in-Rest.ensures.0 ∙ c.deref.ensures.value in
-    let bare = subst (λ (xs : List ℕ). ¬ EndsWithLf xs) c.deref.ensures.value c.in-Rest.ensures.1 in
-    let p = err_from_is_err_and c.from_residual.result c.from_residual.ensures.1 in
-    let Q : ScriptError → Type 0 = λ e. (e.line ≡ l.number) × (last_fault l.stage c.in-Rest.rest.now ≡ Some e.kind) in
-    rw (p.1, p.2) (refused_if known (IsRefusedText (short_line gives) r.rules) Q c.in_err-finding-in-Rest.field-0.0 c.in_err-finding-in-Rest.ensures.refused
-    (λ e fault. reads_rest gives r.rules r.layout_of r.is_after known l.number l.stage l.checker line (g.B.Read.remaining l.reader)
-    laws.begins laws.legal l.invariant.made (l.invariant.reads known taken got) e bare fault.0
-    (subst (λ (xs : List ℕ). last_fault l.stage xs ≡ Some e.kind) is fault.1)))
-
 pub returns-in-Rest-clause-found : goal.returns-in-Rest-clause-found
 returns-in-Rest-clause-found g c = λ known taken got.
     let r = g.L.Recording in
     let laws = g.met.L.Recording in
     let l = c.loop-number in
+    let gives = line_gives g.L.Language.grammar in
+    let left = g.B.Read.remaining l.reader in
+    let reads = l.invariant.reads known taken got in
     let bare = subst (λ (xs : List ℕ). ¬ EndsWithLf xs) c.deref.ensures.value c.in-Rest.ensures.1 in
     let is : c.in-Rest.rest.now ≡ l.line.items = c.in-Rest.ensures.0 ∙ c.deref.ensures.value in
-    let done = c.in_ok-finding-in-Rest.ensures in
-    reads_all (line_gives g.L.Language.grammar) r.rules r.layout_of r.is_after known l.number l.stage l.checker l.line.items (g.B.Read.remaining l.reader)
-    laws.begins laws.legal l.invariant.made (l.invariant.reads known taken got) done.found.0 c.in_ok-finding-in-Rest.finding bare (sym is ∙ done.whole)
-    done.found.1 done.found.2
+    let done = c.last.ensures in
+    ok_by_three c.last.result done.whole done.stop done.found (λ finding whole stop found.
+    both_known known _ _
+    (reads_all gives r.rules r.layout_of r.is_after known l.number l.stage l.checker l.line.items left laws.begins laws.legal l.invariant.made reads
+    found.0 finding bare (sym is ∙ whole) found.1 found.2)
+    (read_to_end gives r.rules r.layout_of r.is_after known l.number l.stage l.checker l.line.items left reads finding.stop stop bare (sym is ∙ whole)))
+
+pub returns-in-Rest-clause-refused : goal.returns-in-Rest-clause-refused
+returns-in-Rest-clause-refused g c = λ known taken got.
+    let r = g.L.Recording in
+    let laws = g.met.L.Recording in
+    let l = c.loop-number in
+    let line = l.line.items in
+    let gives = line_gives g.L.Language.grammar in
+    let left = g.B.Read.remaining l.reader in
+    let reads = l.invariant.reads known taken got in
+    let is : c.in-Rest.rest.now ≡ line = c.in-Rest.ensures.0 ∙ c.deref.ensures.value in
+    let bare = subst (λ (xs : List ℕ). ¬ EndsWithLf xs) c.deref.ensures.value c.in-Rest.ensures.1 in
+    let P : List ℕ → ScriptError → Type 0 = λ text e. IsRefusedText (short_line gives) r.rules text e × IsSomeAnd left (IsReadToFault e text) in
+    let Q : ScriptError → Type 0 = λ e. (e.line ≡ l.number) × (last_fault l.stage c.in-Rest.rest.now ≡ Some e.kind) in
+    IfErr-weaker c.last.result _ _ (λ error fault. refused_text known P Q error fault (λ e here.
+    both_known known _ _
+    (reads_rest gives r.rules r.layout_of r.is_after known l.number l.stage l.checker line left laws.begins laws.legal l.invariant.made reads
+    e bare here.0 (subst (λ (xs : List ℕ). last_fault l.stage xs ≡ Some e.kind) is here.1))
+    (read_to_rest gives r.rules r.layout_of r.is_after known l.number l.stage l.checker line left reads e here.0 bare)))
+    c.last.ensures.refused
 
 pub returns-in-Err-clause-refused : goal.returns-in-Err-clause-refused
 returns-in-Err-clause-refused g c = λ known taken got.
@@ -53,26 +63,42 @@ returns-in-Err-clause-refused g c = λ known taken got.
     let laws = g.met.L.Recording in
     let l = c.loop-number in
     let gives = line_gives g.L.Language.grammar in
+    let left = g.B.Read.remaining l.reader in
+    let reads = l.invariant.reads known taken got in
     let whole = sym c.deref.ensures.value ∙ c.in-Line.ensures in
     let line = c.in-Line.text.now in
+    let P : List ℕ → ScriptError → Type 0 = λ text e. IsRefusedText (short_line gives) r.rules text e × IsSomeAnd left (IsReadToFault e text) in
     let Q : ScriptError → Type 0 = λ e. (e.line ≡ l.number) × (gives l.stage line ≡ Err e.kind) in
-    rw (c.refusal.ensures) (refused_if known (IsRefusedText (short_line gives) r.rules) Q (refusal_of l.number c.in-Err.error)
+    rw (c.refusal.ensures) (refused_if known P Q (refusal_of l.number c.in-Err.error)
     (refused_by_line l.number c.in-Err.error (gives l.stage line) Q c.in-Err.ensures.fault (λ x here is. (here, is)))
-    (λ e fault. reads_fault gives r.rules r.layout_of r.is_after known l.number l.stage l.checker l.line.items (g.B.Read.remaining l.reader)
-    laws.begins laws.legal l.invariant.made (l.invariant.reads known taken got) line e whole fault.0 fault.1))
+    (λ e fault. both_known known _ _
+    (reads_fault gives r.rules r.layout_of r.is_after known l.number l.stage l.checker l.line.items left laws.begins laws.legal l.invariant.made reads
+    line e whole fault.0 fault.1)
+    (read_to_fault gives r.rules r.layout_of r.is_after known l.number l.stage l.checker l.line.items left reads e fault.0 line whole)))
 
 pub returns-in-Stop-clause-found : goal.returns-in-Stop-clause-found
 returns-in-Stop-clause-found g c = λ known taken got.
     let r = g.L.Recording in
     let l = c.loop-number in
+    let gives = line_gives g.L.Language.grammar in
+    let left = g.B.Read.remaining l.reader in
+    let reads = l.invariant.reads known taken got in
+    let line = c.in-Line.text.now in
     let whole = sym c.deref.ensures.value ∙ c.in-Line.ensures in
     let told = rw (c.in-Stop.is, c.unwrap-checker.ensures) at c.in-Ok.ensures.told in
     let comes = told.4 in
     let stops = comes.1.1 in
     let given = told.2 ∙ ap (λ one. Ok (told.0, one)) stops.1 in
-    reads_stop (line_gives g.L.Language.grammar) r.rules r.layout_of r.is_after known l.number l.stage l.checker l.line.items (g.B.Read.remaining l.reader)
-    told.0 stops.0 _ c.in-Stop.layout c.unwrap-checker.result c.in_ok-finding-in-Stop.finding c.in-Line.text.now whole given refl comes.1.0 comes.0 stops.2
-    g.met.L.Recording.legal c.in_ok-finding-in-Stop.ensures.says (l.invariant.reads known taken got)
+    ok_by_two c.found.result c.found.ensures.says c.found.ensures.stop (λ finding says stop.
+    both_known known _ _
+    (reads_stop gives r.rules r.layout_of r.is_after known l.number l.stage l.checker l.line.items left told.0 stops.0 _ c.in-Stop.layout
+    c.unwrap-checker.result finding line whole given refl comes.1.0 comes.0 stops.2 g.met.L.Recording.legal says reads)
+    (read_to_stop gives r.rules r.layout_of r.is_after known l.number l.stage l.checker l.line.items left reads finding.stop _ line stop refl whole))
+
+-- want of memory says nothing of the text
+pub returns-in-Stop-clause-refused : goal.returns-in-Stop-clause-refused
+returns-in-Stop-clause-refused g c = λ known taken got.
+    IfErr-weaker c.found.result _ _ (λ error is. rw is (says_nothing known)) c.found.ensures.memory
 
 pub loop-number-preserved : goal.loop-number-preserved
 loop-number-preserved g c =
@@ -92,47 +118,3 @@ loop-number-preserved g c =
           (g.B.Read.remaining c.next_line.new.reader) whole given comes.2 c.in_ok-next_line.ensures.bytes c.in_ok-next_line.ensures.line
           (l.invariant.reads known taken got);
     }
-
-pub returns-in-Rest-clause-read : goal.returns-in-Rest-clause-read
-returns-in-Rest-clause-read g c = λ known taken got.
-    let r = g.L.Recording in
-    let l = c.loop-number in
-    let bare = subst (λ (xs : List ℕ). ¬ EndsWithLf xs) c.deref.ensures.value c.in-Rest.ensures.1 in
-    let is : c.in-Rest.rest.now ≡ l.line.items = c.in-Rest.ensures.0 ∙ c.deref.ensures.value in
-    let done = c.in_ok-finding-in-Rest.ensures in
-    read_to_end (line_gives g.L.Language.grammar) r.rules r.layout_of r.is_after known l.number l.stage l.checker l.line.items
-    (g.B.Read.remaining l.reader) (l.invariant.reads known taken got) c.in_ok-finding-in-Rest.finding.stop done.stop bare (sym is ∙ done.whole)
-
-pub returns-in-Stop-clause-read : goal.returns-in-Stop-clause-read
-returns-in-Stop-clause-read g c = λ known taken got.
-    let r = g.L.Recording in
-    let l = c.loop-number in
-    let whole = sym c.deref.ensures.value ∙ c.in-Line.ensures in
-    let done = c.in_ok-finding-in-Stop in
-    read_to_stop (line_gives g.L.Language.grammar) r.rules r.layout_of r.is_after known l.number l.stage l.checker l.line.items
-    (g.B.Read.remaining l.reader) (l.invariant.reads known taken got) done.finding.stop _ c.in-Line.text.now done.ensures.stop refl whole
-
-pub returns-in_err-finding-in-Rest-clause-stops : goal.returns-in_err-finding-in-Rest-clause-stops
-returns-in_err-finding-in-Rest-clause-stops g c = λ known taken got.
-    let r = g.L.Recording in
-    let l = c.loop-number in
-    let left = g.B.Read.remaining l.reader in
-    let bare = subst (λ (xs : List ℕ). ¬ EndsWithLf xs) c.deref.ensures.value c.in-Rest.ensures.1 in
-    let p = err_from_is_err_and c.from_residual.result c.from_residual.ensures.1 in
-    let Q : ScriptError → Type 0 = λ e. (e.line ≡ l.number) × (last_fault l.stage c.in-Rest.rest.now ≡ Some e.kind) in
-    rw (p.1, p.2) (refused_if known (λ text e. IsSomeAnd left (IsReadToFault e text)) Q c.in_err-finding-in-Rest.field-0.0
-    c.in_err-finding-in-Rest.ensures.refused (λ e fault. read_to_rest (line_gives g.L.Language.grammar) r.rules r.layout_of r.is_after known l.number
-    l.stage l.checker l.line.items left (l.invariant.reads known taken got) e fault.0 bare))
-
-pub returns-in-Err-clause-stops : goal.returns-in-Err-clause-stops
-returns-in-Err-clause-stops g c = λ known taken got.
-    let r = g.L.Recording in
-    let l = c.loop-number in
-    let left = g.B.Read.remaining l.reader in
-    let gives = line_gives g.L.Language.grammar in
-    let whole = sym c.deref.ensures.value ∙ c.in-Line.ensures in
-    let Q : ScriptError → Type 0 = λ e. e.line ≡ l.number in
-    rw (c.refusal.ensures) (refused_if known (λ text e. IsSomeAnd left (IsReadToFault e text)) Q (refusal_of l.number c.in-Err.error)
-    (refused_by_line l.number c.in-Err.error (gives l.stage c.in-Line.text.now) Q c.in-Err.ensures.fault (λ x here is. here))
-    (λ e here. read_to_fault gives r.rules r.layout_of r.is_after known l.number l.stage l.checker l.line.items left
-    (l.invariant.reads known taken got) e here c.in-Line.text.now whole))

@@ -1,12 +1,42 @@
-use Rattle.std.proofs.Common.{◌≡◌, ◌≤◌, ◌||◌, OnSome, length, take, sym, subst, nat_lt, rules}
+use Rattle.std.proofs.Common.{◌≡◌, ◌≤◌, ◌||◌, OnSome, length, take, refl, sym, subst, nat_lt, rules}
 use Rattle.std.specs.Io.BufRead.{FillKeeps}
 use Rattle.std.proofs.BufReadLemmas.{Consumes_shown}
+use Rattle.std.proofs.Transfers.{starts_with_of_eq}
 use Rattle.std.specs.Io.{StartsWith, StopsAt, appended_bytes}
 use Rattle.std.specs.Io.KnownBytes.{Consumes, IsAtEnd}
 use Rattle.wq_recording.specs.Lines.{EndsOrGoesOn}
-use Rattle.wq_recording.proofs.LineBytes.{part_room, part_stops, part_appends, part_bytes, part_read}
+use Rattle.wq_recording.proofs.LineBytes.{part_room, part_stops, part_appends, part_bytes, part_read, same_stops, same_bytes, same_done}
 use Rattle.wq_recording.proofs.lines.append_part.Given.{Over}
 use Rattle.wq_recording.proofs.lines.append_part.Goals as goal
+
+-- nothing came
+pub returns-in-Err : goal.returns-in-Err
+returns-in-Err g c =
+    let line = c.args.line.now.items in
+    let known = g.B.Read.remaining c.args.reader.now in
+    let left = g.B.Read.remaining c.fill_buf.follows.lender-at-none in
+    record {
+      room = c.requires.room;
+      stops = same_stops line line refl c.requires.none;
+      appends = starts_with_of_eq line line refl;
+      bytes = same_bytes line line refl c.requires.none known left c.fill_buf.follows.holds-at-none.0;
+      done = same_done line line refl c.requires.none known left c.unless_interrupted.result c.unless_interrupted.ensures;
+    }
+
+pub returns-in_err-extend_from_slice : goal.returns-in_err-extend_from_slice
+returns-in_err-extend_from_slice g c =
+    let line = c.args.line.now.items in
+    let new = c.extend_from_slice.new.self.items in
+    let same = c.in_err-extend_from_slice.ensures.items in
+    let known = g.B.Read.remaining c.args.reader.now in
+    let left = g.B.Read.remaining c.fill_buf.follows.lender-at-none in
+    record {
+      room = subst (λ l. length l ≤ 4097) (sym same) c.requires.room;
+      stops = same_stops line new same c.requires.none;
+      appends = starts_with_of_eq new line same;
+      bytes = same_bytes line new same c.requires.none known left c.fill_buf.follows.holds-at-none.0;
+      done = search rules;
+    }
 
 -- the bytes that were shown are consumed, and where none was the reader is at its end
 consumed : (g : Over) (c : goal.After-consume g)
