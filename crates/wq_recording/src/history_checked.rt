@@ -7,12 +7,13 @@ ghost use Rattle.wq_check.specs.declared.cause.EventError.TheVariants.{NotAllowe
 ghost use Rattle.wq_recording.specs.History.{IsEventOf};
 ghost use Rattle.wq_recording.specs.HistoryReport.{executed_lines, waiting_lines, history_counts};
 
+use crate::count_text::write_rows;
 use crate::entry::Entry;
 use crate::history::Entries;
 use crate::recording::Recording;
 use std::alloc::{AllocError, Global};
 use wq_check::{Cause, Checker, EventError, Report};
-use wq_meaning::{either, write_count, write_line};
+use wq_meaning::{either, write_line};
 use wq_words::{Event, Layout};
 
 // Tells one event.
@@ -32,32 +33,28 @@ fn tell_event(checker: &mut Checker, event: Event) -> Result<(), Cause>
     }
 }
 
-// Writes how many events and executions there were.
-fn write_executed(report: Report, out: &mut String) -> Result<(), AllocError>
-    ensures { OnOk result (string_bytes out.new ≡ string_bytes out.old ++ executed_lines report) }
+// Writes how many events, executions and queueings there were, and how many numbers wait.
+fn write_event_counts(report: Report, out: &mut String) -> Result<(), AllocError>
+    ensures { OnOk result (string_bytes out.new ≡ string_bytes out.old ++ (executed_lines report ++ waiting_lines report)) }
 {
-    write_count("events", report.counts.events, out)?;
-    write_count("accepted", report.counts.accepted, out)?;
-    write_count("chained", report.counts.chained, out)?;
-    write_count("executed", report.counts.executed, out)
-}
-
-// Writes how many queueings did nothing, and how many numbers wait.
-fn write_waiting(report: Report, out: &mut String) -> Result<(), AllocError>
-    ensures { OnOk result (string_bytes out.new ≡ string_bytes out.old ++ waiting_lines report) }
-{
-    write_count("busy", report.counts.busy, out)?;
-    write_count("refused", report.counts.refused, out)?;
-    write_count("waiting", report.left as u64, out)?;
-    write_count("most waiting", report.counts.most_waiting as u64, out)
+    let rows = [
+        ("events", report.counts.events),
+        ("accepted", report.counts.accepted),
+        ("chained", report.counts.chained),
+        ("executed", report.counts.executed),
+        ("busy", report.counts.busy),
+        ("refused", report.counts.refused),
+        ("waiting", report.left as u64),
+        ("most waiting", report.counts.most_waiting as u64),
+    ];
+    write_rows(&rows, out)
 }
 
 // Writes what is said of a history as a whole.
 fn write_report(report: Report, out: &mut String) -> Result<(), AllocError>
     ensures { OnOk result (string_bytes out.new ≡ string_bytes out.old ++ history_counts report) }
 {
-    write_executed(report, out)?;
-    write_waiting(report, out)?;
+    write_event_counts(report, out)?;
     write_line(either(report.closed, "closed yes", "closed no"), out)?;
     write_line(either(report.complete, "complete yes", "complete no"), out)
 }

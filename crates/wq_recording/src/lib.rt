@@ -2,6 +2,7 @@
 #![tactic(auto)]
 
 mod checking;
+mod count_text;
 mod entry;
 mod error;
 mod finding;

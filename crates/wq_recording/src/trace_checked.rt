@@ -1,33 +1,27 @@
 //! Traces as recordings.
-ghost use Rattle.std.specs.Prelude.{◌≡◌, ◌++◌, ◌∷◌, [], codes, OnOk, string_bytes};
-ghost use Rattle.wq_recording.specs.HistoryReport.{count_lines};
+ghost use Rattle.std.specs.Prelude.{◌≡◌, ◌++◌, OnOk, string_bytes};
 ghost use Rattle.wq_recording.specs.TraceReport.{trace_counts};
 
+use crate::count_text::write_rows;
 use crate::recording::Recording;
 use crate::trace::Marks;
 use std::alloc::{AllocError, Global};
 use wq_check::{Cause, Mark, MarkError, TraceChecker, TraceReport};
-use wq_meaning::write_count;
 use wq_words::Layout;
-
-// Writes how many marks there were, of each kind too.
-fn write_marks(report: TraceReport, out: &mut String) -> Result<(), AllocError>
-    ensures { OnOk result (string_bytes out.new ≡ string_bytes out.old ++ count_lines ((codes "marks", report.counts.marks)
-        ∷ (codes "queued", report.counts.queued) ∷ (codes "started", report.counts.started) ∷ (codes "ended", report.counts.ended) ∷ [])) }
-{
-    write_count("marks", report.counts.marks, out)?;
-    write_count("queued", report.counts.queued, out)?;
-    write_count("started", report.counts.started, out)?;
-    write_count("ended", report.counts.ended, out)
-}
 
 // Writes what is counted of a trace, a line each.
 fn write_report(report: TraceReport, out: &mut String) -> Result<(), AllocError>
     ensures { OnOk result (string_bytes out.new ≡ string_bytes out.old ++ trace_counts report) }
 {
-    write_marks(report, out)?;
-    write_count("waiting", report.left as u64, out)?;
-    write_count("most waiting", report.counts.most_waiting as u64, out)
+    let rows = [
+        ("marks", report.counts.marks),
+        ("queued", report.counts.queued),
+        ("started", report.counts.started),
+        ("ended", report.counts.ended),
+        ("waiting", report.left as u64),
+        ("most waiting", report.counts.most_waiting as u64),
+    ];
+    write_rows(&rows, out)
 }
 
 impl Recording for Marks {

@@ -100,6 +100,15 @@ pub returns-in-Stop-clause-refused : goal.returns-in-Stop-clause-refused
 returns-in-Stop-clause-refused g c = λ known taken got.
     IfErr-weaker c.found.result _ _ (λ error is. rw is (says_nothing known)) c.found.ensures.memory
 
+-- nor does a reader that failed
+pub returns-in_err-next_line : goal.returns-in_err-next_line
+returns-in_err-next_line g c =
+    let p = err_from_is_err_and c.from_residual.result c.from_residual.ensures.1 in
+    record { found = λ known taken got. rw p.1 tt; refused = λ known taken got. rw (p.1, p.2) (says_nothing known) }
+
+pub returns-clause-refused : goal.returns-clause-refused
+returns-clause-refused g c = λ known taken got. says_nothing known
+
 pub loop-number-preserved : goal.loop-number-preserved
 loop-number-preserved g c =
     let r = g.L.Recording in
