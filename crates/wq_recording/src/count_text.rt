@@ -6,10 +6,10 @@ use std::alloc::AllocError;
 use wq_meaning::write_count;
 
 /// Writes a line for each of these: what is counted, and how many.
-pub(crate) fn write_rows(rows: &[(&str, u64)], out: &mut String) -> Result<(), AllocError>
-    ensures { OnOk result (string_bytes out.new ≡ string_bytes out.old ++ flat_map (λ row. count_line row.0.now row.1) rows.now) }
+pub(crate) fn write_count_lines(counts: &[(&str, u64)], out: &mut String) -> Result<(), AllocError>
+    ensures { OnOk result (string_bytes out.new ≡ string_bytes out.old ++ flat_map (λ count. count_line count.0.now count.1) counts.now) }
 {
-    for &(word, count) in rows {
+    for &(word, count) in counts {
         write_count(word, count, out)?;
     }
     Ok(())

@@ -7,7 +7,7 @@ ghost use Rattle.wq_check.specs.declared.cause.EventError.TheVariants.{NotAllowe
 ghost use Rattle.wq_recording.specs.History.{IsEventOf};
 ghost use Rattle.wq_recording.specs.HistoryReport.{executed_lines, waiting_lines, history_counts};
 
-use crate::count_text::write_rows;
+use crate::count_text::write_count_lines;
 use crate::entry::Entry;
 use crate::history::Entries;
 use crate::recording::Recording;
@@ -37,7 +37,7 @@ fn tell_event(checker: &mut Checker, event: Event) -> Result<(), Cause>
 fn write_event_counts(report: Report, out: &mut String) -> Result<(), AllocError>
     ensures { OnOk result (string_bytes out.new ≡ string_bytes out.old ++ (executed_lines report ++ waiting_lines report)) }
 {
-    let rows = [
+    let counts = [
         ("events", report.counts.events),
         ("accepted", report.counts.accepted),
         ("chained", report.counts.chained),
@@ -47,7 +47,7 @@ fn write_event_counts(report: Report, out: &mut String) -> Result<(), AllocError
         ("waiting", report.left as u64),
         ("most waiting", report.counts.most_waiting as u64),
     ];
-    write_rows(&rows, out)
+    write_count_lines(&counts, out)
 }
 
 // Writes what is said of a history as a whole.

@@ -2,7 +2,7 @@
 ghost use Rattle.std.specs.Prelude.{◌≡◌, ◌++◌, OnOk, string_bytes};
 ghost use Rattle.wq_recording.specs.TraceReport.{trace_counts};
 
-use crate::count_text::write_rows;
+use crate::count_text::write_count_lines;
 use crate::recording::Recording;
 use crate::trace::Marks;
 use std::alloc::{AllocError, Global};
@@ -13,7 +13,7 @@ use wq_words::Layout;
 fn write_report(report: TraceReport, out: &mut String) -> Result<(), AllocError>
     ensures { OnOk result (string_bytes out.new ≡ string_bytes out.old ++ trace_counts report) }
 {
-    let rows = [
+    let counts = [
         ("marks", report.counts.marks),
         ("queued", report.counts.queued),
         ("started", report.counts.started),
@@ -21,7 +21,7 @@ fn write_report(report: TraceReport, out: &mut String) -> Result<(), AllocError>
         ("waiting", report.left as u64),
         ("most waiting", report.counts.most_waiting as u64),
     ];
-    write_rows(&rows, out)
+    write_count_lines(&counts, out)
 }
 
 impl Recording for Marks {
