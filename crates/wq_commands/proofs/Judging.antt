@@ -1,6 +1,7 @@
 -- What follows for `check_main` from what was found and how it was written.
 use Rattle.std.proofs.Common.{◌≡◌, ℕ, List, Bool, Option, Some, None, IfSome, refl, sym, subst}
 use Rattle.std.specs.Prelude.{Result, Ok, Err, IfOk, IfErr, IsOkAnd, MatchResult}
+use Rattle.wq_text.specs.declared.fault.ScriptError.{ScriptError}
 use Rattle.wq_recording.specs.declared.finding.Finding.{Finding}
 use Rattle.wq_recording.specs.Checking.{IsFoundOf}
 use Rattle.wq_subcommand.specs.declared.failure.Failure.{Failure}
@@ -9,14 +10,14 @@ use Rattle.wq_subcommand.specs.Ending.{WritesPart, Fails}
 use Rattle.wq_subcommand.proofs.Endings.{unmade_none, fails_unmade, fails_unwritten}
 use Rattle.wq_commands.specs.Judged.{WritesFinding, Says, IsSaid, HasNoFinding}
 
-pub judges_at_end : (wants_drained : Bool) (status : ℕ) (remaining : Option (List ℕ)) (finding : Result Finding Failure) (before after : Option (List ℕ))
+pub judges_at_end : (wants_drained : Bool) (status : ℕ) (remaining : Option (List ℕ)) (finding : Result Finding (Failure ScriptError)) (before after : Option (List ℕ))
     → IfOk finding (λ f. IfSome remaining (λ bytes. IsFoundOf bytes f)) → IsOkAnd finding (IsSaid wants_drained status before after)
     → IfSome remaining (λ bytes. WritesFinding wants_drained bytes status before after)
 judges_at_end wants_drained status None finding before after found said = tt
 judges_at_end wants_drained status (Some bytes) (Ok f) before after found said = record { finding = f; found = found; said = said }
 judges_at_end wants_drained status (Some bytes) (Err cause) before after found said = absurd said
 
-pub fails_unsaid : (remaining : Option (List ℕ)) (finding : Result Finding Failure) (before after : Option (List ℕ)) (cause : Failure)
+pub fails_unsaid : (remaining : Option (List ℕ)) (finding : Result Finding (Failure ScriptError)) (before after : Option (List ℕ)) (cause : Failure ScriptError)
     → IfOk finding (λ f. IfSome remaining (λ bytes. IsFoundOf bytes f))
     → IfErr finding (λ f. IfSome remaining (λ bytes. HasNoFinding bytes f))
     → MatchResult finding (λ f. (cause ≡ failure.Unwritable) × WritesPart f.text.items before after) (λ f. cause ≡ f)

@@ -1,6 +1,7 @@
 -- What the program makes of a recording.
 use Rattle.std.specs.Prelude.{◌≡◌, ℕ, ◌==◌, Bool, ◌&&◌, ◌||◌, not, if◌then◌else◌, List, Option}
 use Rattle.std.specs.Io.KnownBytes.{Appends}
+use Rattle.wq_text.specs.declared.fault.ScriptError.{ScriptError}
 use Rattle.wq_recording.specs.declared.finding.Finding.{Finding}
 use Rattle.wq_recording.specs.Checking.{IsFoundOf, IsRefusedFor}
 use Rattle.wq_recording.specs.declared.error.CheckError.{CheckError}
@@ -33,13 +34,13 @@ pub record Says (text output : List ℕ) : Type 0 where
   pub output_is : output ≡ finding.text.items
 
 -- nothing is found of the text: it is refused for this, or memory was wanting, or the reader failed
-abbrev pub HasNoFinding : List ℕ → Failure → Type 0
+abbrev pub HasNoFinding : List ℕ → Failure ScriptError → Type 0
 HasNoFinding text (failure.Refused refusal) = IsRefusedFor text refusal
 HasNoFinding text failure.Memory = Unit {0}
 HasNoFinding text failure.Unreadable = Unit {0}
 HasNoFinding text _ = ⊥
 
 -- nothing is found for this error
-abbrev pub of_check_error : CheckError → Failure
+abbrev pub of_check_error : CheckError → Failure ScriptError
 of_check_error (check_errors.Read e) = of_read_error e
 of_check_error (check_errors.Text e) = of_parse_error e

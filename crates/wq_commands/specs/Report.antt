@@ -1,5 +1,6 @@
 -- What the program makes of a script's text.
 use Rattle.std.specs.Prelude.{◌≡◌, ℕ, List}
+use Rattle.wq_text.specs.declared.fault.ScriptError.{ScriptError}
 use Rattle.wq_text.specs.declared.script.Script.{Script}
 use Rattle.wq_script.specs.Script.{layout_of, commands_of}
 use Rattle.wq_script.specs.Commands.{output_of}
@@ -15,7 +16,7 @@ pub record Reports (text report : List ℕ) : Type 0 where
   pub report_is : report ≡ output_of (layout_of script) (commands_of script)
 
 -- the text has no report: it is refused for this, or memory was wanting
-abbrev pub HasNoReport : List ℕ → Failure → Type 0
+abbrev pub HasNoReport : List ℕ → Failure ScriptError → Type 0
 HasNoReport text (failure.Refused refusal) = IsRefusal (script_lines text) text refusal
 HasNoReport text failure.Memory = Unit {0}
 HasNoReport text _ = ⊥

@@ -1,5 +1,6 @@
 -- What the program makes of a schedule's text.
 use Rattle.std.specs.Prelude.{ℕ, List}
+use Rattle.wq_text.specs.declared.fault.ScriptError.{ScriptError}
 use Rattle.wq_text.specs.declared.schedule.Schedule.{Schedule}
 use Rattle.wq_text.specs.Schedule.{schedule_layout, turns_of}
 use Rattle.wq_text.specs.Text.{Spells, IsRefusal}
@@ -22,7 +23,7 @@ pub record Records (text recording : List ℕ) : Type 0 where
   pub recording_is : IsRecordingOf (schedule_layout schedule) (turns_of schedule) recording
 
 -- the text has no output: it is refused for this, or memory was wanting
-abbrev pub HasNoOutput : List ℕ → Failure → Type 0
+abbrev pub HasNoOutput : List ℕ → Failure ScriptError → Type 0
 HasNoOutput text (failure.Refused refusal) = IsRefusal (schedule_lines text) text refusal
 HasNoOutput text failure.Memory = Unit {0}
 HasNoOutput text _ = ⊥

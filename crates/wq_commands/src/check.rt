@@ -1,6 +1,7 @@
 //! `wqrun check`: a recording's bytes in, what is found of it out.
 ghost use Rattle.std.specs.Prelude.{◌≡◌, ◌≢◌, ◌⊎◌, IfOk, IfErr, IfSome, IsOkAnd, MatchResult};
 ghost use Rattle.wq_recording.specs.Checking.{IsFoundOf};
+ghost use Rattle.wq_text.specs.declared.fault.ScriptError.{ScriptError};
 ghost use Rattle.wq_subcommand.specs.declared.failure.Failure.{Failure as Cause};
 ghost use Rattle.wq_subcommand.specs.declared.failure.Failure.TheVariants.{Unwritable};
 ghost use Rattle.wq_subcommand.specs.Failure.{status_of};
@@ -38,7 +39,7 @@ fn write_finding<W: Write, F: Write>(
     faults: &mut F,
 ) -> u8
     ensures said { (result ≡ 0) ⊎ (result ≡ 4) → IsOkAnd finding (IsSaid wants_drained result (W.contents writer.old) (W.contents writer.new)) }
-    ensures failed { result ≢ 0 → result ≢ 4 → (cause : Cause) × (result ≡ status_of cause) × MatchResult finding
+    ensures failed { result ≢ 0 → result ≢ 4 → (cause : Cause ScriptError) × (result ≡ status_of cause) × MatchResult finding
         (λ found. (cause ≡ Unwritable) × WritesPart found.text.items (W.contents writer.old) (W.contents writer.new)) (λ failure. cause ≡ failure)
         × IsUntouched cause writer.old writer.new }
     ensures status { (result ≡ 0) ⊎ ((result ≡ 1) ⊎ ((result ≡ 3) ⊎ (result ≡ 4))) }
@@ -53,7 +54,7 @@ fn write_finding<W: Write, F: Write>(
             },
         ) => {
             let passes = is_legal && (!wants_drained || left == 0);
-            let status = end(Ok(text), writer, faults);
+            let status = end(Ok::<_, Failure>(text), writer, faults);
             if status == WRITTEN && !passes {
                 NOT_LEGAL
             } else {
@@ -77,7 +78,7 @@ pub fn check_main<B: BufRead + Drop, W: Write, F: Write>(
 ) -> u8
     ensures judged { (result ≡ 0) ⊎ (result ≡ 4) → IfSome (B.remaining reader)
         (λ bytes. WritesFinding wants_drained bytes result (W.contents writer.old) (W.contents writer.new)) }
-    ensures failed { result ≢ 0 → result ≢ 4 → (cause : Cause) × (result ≡ status_of cause) × IsUntouched cause writer.old writer.new
+    ensures failed { result ≢ 0 → result ≢ 4 → (cause : Cause ScriptError) × (result ≡ status_of cause) × IsUntouched cause writer.old writer.new
         × IfSome (B.remaining reader) (λ bytes. Fails Says HasNoFinding bytes (W.contents writer.old) (W.contents writer.new) cause) }
     ensures status { (result ≡ 0) ⊎ ((result ≡ 1) ⊎ ((result ≡ 3) ⊎ (result ≡ 4))) }
 {

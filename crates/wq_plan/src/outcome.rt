@@ -1,5 +1,5 @@
 //! What a race did, and whether its book balances.
-ghost use Rattle.std.specs.Prelude.{◌≡◌, ◌≢◌, ◌<◌, [], ◌∷◌, ◌++◌, map, All, OnOk, OnErr, IfOk, MatchResult, MatchBool, string_bytes};
+ghost use Rattle.std.specs.Prelude.{◌≡◌, ◌≢◌, ◌<◌, [], ◌∷◌, ◌++◌, map, All, OnOk, OnErr, IfOk, MatchBool, string_bytes};
 ghost use Rattle.wq_words.specs.History.{IsRunning};
 ghost use Rattle.wq_words.specs.Legal.{IsLegal};
 ghost use Rattle.wq_words.specs.Seen.{owner_seat, own};
@@ -7,7 +7,7 @@ ghost use Rattle.wq_live.specs.Known.{Sees};
 ghost use Rattle.wq_ledger.specs.Book.{IsLedgerOf};
 ghost use Rattle.wq_ledger.specs.Balance.{Balances, IsUnbalanced};
 ghost use Rattle.wq_plan.specs.Race.{HasRaced};
-ghost use Rattle.wq_plan.specs.Outcome.{outcome_line, yes_or_no as said, Tells, IsWhole, HasMet, AllKnown, HasGoneOn, HasEnded};
+ghost use Rattle.wq_plan.specs.Outcome.{outcome_line, yes_or_no as said, Tells, IsWhole, HasMet, AllKnown, HasEnded};
 ghost use Rattle.wq_plan.specs.Outcome.{HasHeard, ledger_of, IsTold, queued_sum, HasSettled};
 
 use crate::idle::Idle;
@@ -81,22 +81,7 @@ fn meet_senders(worker: &mut Worker<Idle>, senders: &mut Vec<Sender>)
     }
 }
 
-// Destroys the queue of a worker, or gives the worker back.
-fn try_destroy(worker: Worker<Idle>) -> Result<(Idle, Book), Worker<Idle>>
-    requires seat { worker.number ≢ owner_seat }
-    requires idle { ¬ IsRunning worker.seen }
-    requires legal { IsLegal worker.layout worker.seen }
-    ensures { MatchResult result (λ done. HasEnded worker done.0 done.1) (λ back. HasGoneOn worker back) }
-{
-    match worker.destroy(u32::MAX) {
-        Ok((work, book)) => {
-            book.legal();
-            Ok((work, book))
-        }
-        Err(unfinished) => Err(unfinished.worker),
-    }
-}
-
+// Destroys the queue of a worker, again and again until nothing is left.
 fn destroy<R: Wait>(rt: &R, mut worker: Worker<Idle>) -> (Idle, Book)
     requires seat { worker.number ≢ owner_seat }
     requires idle { ¬ IsRunning worker.seen }
@@ -104,9 +89,12 @@ fn destroy<R: Wait>(rt: &R, mut worker: Worker<Idle>) -> (Idle, Book)
     ensures { HasEnded worker result.0 result.1 }
 {
     for _ in rt.forever() {
-        match try_destroy(worker) {
-            Ok(done) => return done,
-            Err(back) => worker = back,
+        match worker.destroy(u32::MAX) {
+            Ok((work, book)) => {
+                book.legal();
+                return (work, book);
+            }
+            Err(unfinished) => worker = unfinished.worker,
         }
     }
     unreachable!()

@@ -1,3 +1,4 @@
 pub mod Teams
 pub mod Race
 pub mod Outcome
+pub mod RaceReport

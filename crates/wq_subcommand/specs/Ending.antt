@@ -1,5 +1,5 @@
 -- What a subcommand makes of the bytes of a reader, for any language of texts: which outputs a text means, and which
--- failures say that it has none.
+-- failures say that it has none. `E` is what a text of the language is refused for.
 use Rattle.std.specs.Prelude.{◌≡◌, ℕ, List, Option}
 use mathlib.Core.List.{IsPrefix}
 use Rattle.std.specs.Io.KnownBytes.{Appends}
@@ -19,26 +19,25 @@ pub record WritesPart (output : List ℕ) (before after : Option (List ℕ)) : T
   pub appends : Appends before after taken
 
 -- nothing was made of a text, for this cause, which is no failure of writing
-abbrev pub IsUnmade : (List ℕ → Failure → Type 0) → List ℕ → Failure → Type 0
+abbrev pub IsUnmade : {E : Type 0} → (List ℕ → Failure E → Type 0) → List ℕ → Failure E → Type 0
 IsUnmade HasNone text failure.Unwritable = ⊥
 IsUnmade HasNone text failure.Unreadable = Unit {0}
 IsUnmade HasNone text failure.Memory = Unit {0}
 IsUnmade HasNone text (failure.Refused refusal) = HasNone text (failure.Refused refusal)
-IsUnmade HasNone text (failure.RefusedPlan refusal) = HasNone text (failure.RefusedPlan refusal)
 
 -- The output of a text was not, or not all, written for this cause: only where the text means an output was the writing begun,
 -- and then a beginning of that output was written.
-abbrev pub Fails : (List ℕ → List ℕ → Type 0) → (List ℕ → Failure → Type 0) → List ℕ → Option (List ℕ) → Option (List ℕ) → Failure → Type 0
+abbrev pub Fails : {E : Type 0} → (List ℕ → List ℕ → Type 0) → (List ℕ → Failure E → Type 0) → List ℕ → Option (List ℕ) → Option (List ℕ) → Failure E → Type 0
 Fails Means HasNone text before after failure.Unwritable = (output : List ℕ) × Means text output × WritesPart output before after
 Fails Means HasNone text before after cause = IsUnmade HasNone text cause
 
 -- the text could not be read, or memory was wanting
-abbrev pub HasNoText : Failure → Type 0
+abbrev pub HasNoText : {E : Type 0} → Failure E → Type 0
 HasNoText failure.Unreadable = Unit {0}
 HasNoText failure.Memory = Unit {0}
 HasNoText _ = ⊥
 
 -- a writer that got nothing, unless just the writing failed
-abbrev pub IsUntouched : {W : Type 0} → Failure → W → W → Type 0
+abbrev pub IsUntouched : {E W : Type 0} → Failure E → W → W → Type 0
 IsUntouched failure.Unwritable before after = Unit {0}
 IsUntouched _ before after = after ≡ before

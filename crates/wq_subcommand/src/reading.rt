@@ -7,7 +7,11 @@ use std::alloc::Global;
 use std::io::Read;
 
 /// Reads a text to its end, so many bytes at most. An error is one of reading: the reader failed, or memory was wanting.
-pub fn read_most<R: Read + Drop>(alloc: Global, reader: R, most: u64) -> Result<Vec<u8>, Failure>
+pub fn read_most<E, R: Read + Drop>(
+    alloc: Global,
+    reader: R,
+    most: u64,
+) -> Result<Vec<u8>, Failure<E>>
     ensures text { IfOk result (λ text. IfSome (R.remaining reader) (λ bytes. text.items ≡ take most bytes)) }
     ensures none { IfErr result HasNoText }
 {

@@ -1,5 +1,6 @@
 //! A subcommand that makes its output of a whole text: the text's bytes in, the output's bytes out.
 ghost use Rattle.std.specs.Prelude.{◌≡◌, ◌≢◌, ◌⊎◌, ℕ, List, IfOk, IfErr, IfSome, take};
+ghost use Rattle.wq_text.specs.declared.fault.ScriptError.{ScriptError};
 ghost use Rattle.wq_subcommand.specs.declared.failure.Failure.{Failure as Cause};
 ghost use Rattle.wq_subcommand.specs.Failure.{status_of};
 ghost use Rattle.wq_subcommand.specs.Ending.{Writes, Fails, IsUntouched, IsUnmade};
@@ -16,7 +17,7 @@ pub trait Subcommand {
     ghost means: { List ℕ → List ℕ → Type 0 };
 
     // which failures say that a text has none
-    ghost lacks: { List ℕ → Cause → Type 0 };
+    ghost lacks: { List ℕ → Cause ScriptError → Type 0 };
 
     // how many bytes of a reader are read
     ghost limit: { ℕ };
@@ -59,7 +60,7 @@ pub fn subcommand_main<S: Subcommand, R: Read + Drop, W: Write, F: Write>(
 ) -> u8
     ensures written { result ≡ 0 → IfSome (R.remaining reader)
         (λ bytes. Writes S.means (take S.limit bytes) (W.contents writer.old) (W.contents writer.new)) }
-    ensures failed { result ≢ 0 → (cause : Cause) × (result ≡ status_of cause) × IsUntouched cause writer.old writer.new
+    ensures failed { result ≢ 0 → (cause : Cause ScriptError) × (result ≡ status_of cause) × IsUntouched cause writer.old writer.new
         × IfSome (R.remaining reader) (λ bytes. Fails S.means S.lacks (take S.limit bytes) (W.contents writer.old) (W.contents writer.new) cause) }
     ensures status { (result ≡ 0) ⊎ ((result ≡ 1) ⊎ (result ≡ 3)) }
 {

@@ -12,13 +12,18 @@ use std::sync::Wait;
 use std::thread::Threads;
 use wq_command_line::{Answer, Kind, Source, Task, task_of};
 use wq_commands::{HistoryCommand, ScriptCommand, StepsCommand, check_main};
-use wq_live_command::live_main;
+use wq_pool_plan::live_main;
 use wq_subcommand::{Failure, WRONG_WORDS, end, subcommand_main};
 
 // The words of the command line, the program's own name first.
 fn command_words<R: Env + Alloc<A = Global>>(rt: &R) -> io::Result<Vec<String>> {
     let words = std::env::args(rt)?.collect(rt.alloc())?;
     Ok(words)
+}
+
+// Says why there is no output. The answer is the exit status.
+fn fail<O: Write, E: Write>(failure: Failure, output: &mut O, faults: &mut E) -> u8 {
+    end(Err(failure), output, faults)
 }
 
 // Runs the text of a reader as what it is.
@@ -37,7 +42,7 @@ fn run_text<T: Threads + Wait + Sync, R: Read + Drop, O: Write, E: Write>(
         Kind::Live => live_main(threads, alloc, reader, output, faults),
         Kind::Check => match BufReader::new(alloc, reader) {
             Ok(reader) => check_main(alloc, reader, task.wants_drained, output, faults),
-            Err(error) => end(Err(Failure::from(error)), output, faults),
+            Err(error) => fail(Failure::from(error), output, faults),
         },
     }
 }
@@ -45,12 +50,12 @@ fn run_text<T: Threads + Wait + Sync, R: Read + Drop, O: Write, E: Write>(
 // Writes help and the version to the output, and says what is wrong with the words on `faults`, with status 2.
 fn say<O: Write, E: Write>(answer: Answer, output: &mut O, faults: &mut E) -> u8 {
     match answer {
-        Answer::Help(text) => end(Ok(text), output, faults),
+        Answer::Help(text) => end(Ok::<_, Failure>(text), output, faults),
         Answer::Wrong(text) => {
             let _ = faults.write_all(&text);
             WRONG_WORDS
         }
-        Answer::Memory => end(Err(Failure::Memory), output, faults),
+        Answer::Memory => fail(Failure::Memory, output, faults),
     }
 }
 
@@ -61,14 +66,14 @@ fn main(rt: HostRuntime) -> ExitCode {
     let alloc = rt.alloc();
     let (output, faults) = (&mut rt.stdout(), &mut rt.stderr());
     let status = match command_words(&rt) {
-        Err(error) => end(Err(Failure::from(error)), output, faults),
+        Err(error) => fail(Failure::from(error), output, faults),
         Ok(words) => match task_of(alloc, &words) {
             Err(answer) => say(answer, output, faults),
             Ok(task) => match task.source {
                 Source::Input => run_text(&rt, alloc, task, rt.stdin(), output, faults),
                 Source::File(path) => match File::open(&rt, path) {
                     Ok(file) => run_text(&rt, alloc, task, file, output, faults),
-                    Err(error) => end(Err(Failure::from(error)), output, faults),
+                    Err(error) => fail(Failure::from(error), output, faults),
                 },
             },
         },

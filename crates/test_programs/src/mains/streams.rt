@@ -8,7 +8,7 @@ use std::process::Abort;
 use std::sync::Wait;
 use std::thread::Threads;
 use wq_commands::{HistoryCommand, ScriptCommand, StepsCommand, check_main};
-use wq_live_command::live_main;
+use wq_pool_plan::live_main;
 use wq_subcommand::{Failure, end, subcommand_main};
 
 /// A subcommand.
@@ -112,7 +112,7 @@ fn run<T: Threads + Wait + Sync, R: Read + Drop, W: Write>(
         Main::Live => live_main(rt, alloc, reader, writer, &mut faults),
         Main::Check => match BufReader::new(alloc, reader) {
             Ok(reader) => check_main(alloc, reader, true, writer, &mut faults),
-            Err(error) => end(Err(Failure::from(error)), writer, &mut faults),
+            Err(error) => end(Err::<_, Failure>(Failure::from(error)), writer, &mut faults),
         },
     };
     Ended { status, faults }

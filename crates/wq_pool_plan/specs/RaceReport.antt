@@ -1,6 +1,7 @@
 -- What the program makes of a plan's text.
 use Rattle.std.specs.Prelude.{◌≡◌, ℕ, List, take}
 use Rattle.wq_plan.specs.declared.plan.Plan.{Plan}
+use Rattle.wq_plan.specs.declared.plan_text.PlanError.{PlanError}
 use Rattle.wq_plan.specs.declared.outcome.Outcome.{Outcome}
 use Rattle.wq_plan.specs.PlanText.{SpellsPlan, IsNoPlan}
 use Rattle.wq_plan.specs.Outcome.{outcome_line, IsWhole, TellsRace}
@@ -22,8 +23,8 @@ pub record Races (text line : List ℕ) : Type 0 where
   pub line_is : line ≡ outcome_line outcome
 
 -- the text has no outcome: it is refused for this, or memory or a thread was wanting
-abbrev pub HasNoRace : List ℕ → Failure → Type 0
-HasNoRace text (failure.RefusedPlan refusal) = IsNoPlan text refusal
+abbrev pub HasNoRace : List ℕ → Failure PlanError → Type 0
+HasNoRace text (failure.Refused refusal) = IsNoPlan text refusal
 HasNoRace text failure.Memory = Unit {0}
 HasNoRace text _ = ⊥
 

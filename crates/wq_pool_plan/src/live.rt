@@ -1,28 +1,48 @@
 //! `wqrun live`: a plan's bytes in, the line of its outcome out.
 ghost use Rattle.std.specs.Prelude.{◌≡◌, ◌≢◌, ◌⊎◌, IfOk, IfErr, IfSome, string_bytes};
+ghost use Rattle.wq_plan.specs.declared.plan_text.PlanError.{PlanError as Refusal};
+ghost use Rattle.wq_plan.specs.PlanText.{SpellsPlan};
 ghost use Rattle.wq_subcommand.specs.declared.failure.Failure.{Failure as Cause};
 ghost use Rattle.wq_subcommand.specs.Failure.{status_of};
 ghost use Rattle.wq_subcommand.specs.Ending.{Writes, Fails, IsUntouched, IsUnmade};
-ghost use Rattle.wq_live_command.specs.RaceReport.{Races, HasNoRace, plan_read};
+ghost use Rattle.wq_pool_plan.specs.RaceReport.{Races, HasNoRace, plan_read};
 
+use crate::race::run_live;
 use std::alloc::Global;
 use std::io::{Read, Write};
 use std::sync::Wait;
 use std::thread::Threads;
-use wq_plan::read_plan;
-use wq_pool_plan::run_live;
+use wq_plan::{Plan, PlanError, read_plan};
 use wq_subcommand::{Failure, end, read_most};
 
 // One byte more than `MOST_BYTES` of `wq_plan`, the most that a plan may have, so that a longer one is seen to be too long.
 const PLAN_BYTES: u64 = 65_537;
 
+// The plan that a text spells.
+fn plan_of(alloc: Global, text: &[u8]) -> Result<Plan, Failure<PlanError>>
+    ensures plan { IfOk result (SpellsPlan text.now) }
+    ensures none { IfErr result (HasNoRace text.now) }
+{
+    match read_plan(alloc, text) {
+        Ok(plan) => Ok(plan),
+        Err(PlanError::Memory) => Err(Failure::Memory),
+        Err(refusal) => Err(Failure::Refused(refusal)),
+    }
+}
+
 // The line of the outcome of a plan's text.
-fn line_of<T: Threads + Wait + Sync>(rt: &T, alloc: Global, text: &[u8]) -> Result<String, Failure>
+fn line_of<T: Threads + Wait + Sync>(
+    rt: &T,
+    alloc: Global,
+    text: &[u8],
+) -> Result<String, Failure<PlanError>>
     ensures line { IfOk result (λ line. Races text.now (string_bytes line)) }
     ensures none { IfErr result (HasNoRace text.now) }
 {
-    let plan = read_plan(alloc, text)?;
-    let outcome = run_live(rt, alloc, plan)?;
+    let plan = plan_of(alloc, text)?;
+    let Ok(outcome) = run_live(rt, alloc, plan) else {
+        return Err(Failure::Memory);
+    };
     let mut line = String::new(alloc);
     outcome.write(&mut line)?;
     Ok(line)
@@ -33,7 +53,7 @@ fn read_line<T: Threads + Wait + Sync, R: Read + Drop>(
     rt: &T,
     alloc: Global,
     reader: R,
-) -> Result<Vec<u8>, Failure>
+) -> Result<Vec<u8>, Failure<PlanError>>
     ensures line { IfOk result (λ line. IfSome (R.remaining reader) (λ bytes. Races (plan_read bytes) line.items)) }
     ensures none { IfErr result (λ cause. IfSome (R.remaining reader) (λ bytes. IsUnmade HasNoRace (plan_read bytes) cause)) }
 {
@@ -54,7 +74,7 @@ pub fn live_main<T: Threads + Wait + Sync, R: Read + Drop, W: Write, F: Write>(
     faults: &mut F,
 ) -> u8
     ensures written { result ≡ 0 → IfSome (R.remaining reader) (λ bytes. Writes Races (plan_read bytes) (W.contents writer.old) (W.contents writer.new)) }
-    ensures failed { result ≢ 0 → (cause : Cause) × (result ≡ status_of cause) × IsUntouched cause writer.old writer.new
+    ensures failed { result ≢ 0 → (cause : Cause Refusal) × (result ≡ status_of cause) × IsUntouched cause writer.old writer.new
         × IfSome (R.remaining reader) (λ bytes. Fails Races HasNoRace (plan_read bytes) (W.contents writer.old) (W.contents writer.new) cause) }
     ensures status { (result ≡ 0) ⊎ ((result ≡ 1) ⊎ (result ≡ 3)) }
 {
