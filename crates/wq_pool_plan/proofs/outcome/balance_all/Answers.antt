@@ -1,4 +1,5 @@
 use Rattle.wq_pool_plan.proofs.Common.{◌≡◌, ◌+◌, List, [], ◌∷◌, length, get_or, refl, sym, ap, ◌∙◌, arith, length-append, take_all, BookState, Idle, WorkerId}
+use Rattle.std.proofs.lemmas.List.{length-take-le}
 use Rattle.wq_pool_plan.proofs.Common.{Plan, AreFinished, AllSent}
 use Rattle.wq_pool_plan.proofs.Summed.{finished_count, is_last, tells_none, tells_more, few_told}
 use Rattle.wq_pool_plan.proofs.outcome.balance_all.Goals as goal
@@ -13,6 +14,25 @@ loop-work-init c =
       programs_are = sym (take_all n c.args.programs.items (omega (arith, size, r.4.programs_count)));
       told = λ plan ids f s. ([], omega (arith, finished_count (λ w. w.ran.items) ids c.args.finished.items f), tells_none plan _ refl refl refl);
     }
+
+-- each queue has a group and a sender of the program
+pub unreachable-requires : goal.unreachable-requires
+unreachable-requires c =
+    let l = c.loop-work in let r = c.requires in let n = length l.finished.items in
+    let one : Idle × BookState = (c.in-Some.work, c.in-Some.book) in
+    let some = ap length c.in-Some.ensures.items ∙ length-append c.pop.new.self.items (one ∷ []) in
+    let count = finished_count (λ w. w.ran.items) r.1 c.args.finished.items r.3 in
+    let left = ap length l.invariant.groups_are ∙ length-take-le n c.args.by_queue.items (omega (arith, l.invariant.within, count, r.4.groups_count)) in
+    omega (arith, some, left, c.in_default-pop.ensures.cases.0, l.by_queue.ok.0)
+
+pub unreachable-requires-in_default-pop-2 : goal.unreachable-requires-in_default-pop-2
+unreachable-requires-in_default-pop-2 c =
+    let l = c.loop-work in let r = c.requires in let n = length l.finished.items in
+    let one : Idle × BookState = (c.in-Some.work, c.in-Some.book) in
+    let some = ap length c.in-Some.ensures.items ∙ length-append c.pop.new.self.items (one ∷ []) in
+    let count = finished_count (λ w. w.ran.items) r.1 c.args.finished.items r.3 in
+    let left = ap length l.invariant.programs_are ∙ length-take-le n c.args.programs.items (omega (arith, l.invariant.within, count, r.4.programs_count)) in
+    omega (arith, some, left, c.in_default-pop-2.ensures.cases.0, l.programs.ok.0)
 
 pub balance_one-requires : goal.balance_one-requires
 balance_one-requires c =

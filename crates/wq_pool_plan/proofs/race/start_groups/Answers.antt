@@ -32,3 +32,11 @@ returns-then-not-keep_handle-clause-given g c = λ k d e lt.
     subst (λ (hs : List (PromisedHandle Group QueuesGroup)). ((get_or hs k d).promise.group.value ≡ get_or c.args.groups.items k e)
     × ((get_or hs k d).promise.own ≡ c.args.own)) (sym kept)
     (c.loop-group.invariant.given k d e (omega (arith, lt, ap length kept)))
+
+-- a caller for each of the groups that are left
+pub unreachable-requires : goal.unreachable-requires
+unreachable-requires g c =
+    let i = c.into_iter-group-iterator.ensures.into_iter_gives in let l = c.loop-group in
+    let turn = YieldsList-turn (YieldsList-from_vec {s = c.into_iter-group-iterator.result} c.args.groups.items i.0 (i.1
+    ∙ c.args.groups.ok.0)) l.yielded l.group-iterator l.yielded_by c.next.result c.next.new.self c.in-Some.group c.in-Some.is c.next.ensures.steps in
+    omega (arith, l.invariant.enough, turn.0, c.in_default.ensures.cases.0, l.callers.ok.0)
