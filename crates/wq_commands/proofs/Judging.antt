@@ -10,7 +10,8 @@ use Rattle.wq_subcommand.specs.Ending.{WritesPart, Fails}
 use Rattle.wq_subcommand.proofs.Endings.{unmade_none, fails_unmade, fails_unwritten}
 use Rattle.wq_commands.specs.Judged.{WritesFinding, Says, IsSaid, HasNoFinding}
 
-pub judges_at_end : (wants_drained : Bool) (status : ℕ) (remaining : Option (List ℕ)) (finding : Result Finding (Failure ScriptError)) (before after : Option (List ℕ))
+pub judges_at_end : (wants_drained : Bool) (status : ℕ) (remaining : Option (List ℕ))
+    (finding : Result Finding (Failure ScriptError)) (before after : Option (List ℕ))
     → IfOk finding (λ f. IfSome remaining (λ bytes. IsFoundOf bytes f)) → IsOkAnd finding (IsSaid wants_drained status before after)
     → IfSome remaining (λ bytes. WritesFinding wants_drained bytes status before after)
 judges_at_end wants_drained status None finding before after found said = tt

@@ -1,5 +1,7 @@
 use Rattle.wq_pool_plan.proofs.Common.{◌≡◌, ◌∙◌, ℕ, ◌+◌, ◌-◌, vec_len, sym, ap, subst, length, get_or, List, arith, length-append, [], ◌∷◌, All, get_or_default}
 use Rattle.wq_pool_plan.proofs.Common.{All-take, YieldsList-from_vec, YieldsList-turn, PromisedHandle, each_more, IsCallerOf, Group, QueuesGroup}
+use Rattle.wq_calls.proofs.Seated.{all_last}
+use Rattle.wq_pool_plan.specs.Race.{IsGroupFor}
 use Rattle.wq_pool_plan.proofs.race.start_groups.Goals as goal
 
 pub loop-group-preserved : goal.loop-group-preserved
@@ -40,3 +42,15 @@ unreachable-requires g c =
     let turn = YieldsList-turn (YieldsList-from_vec {s = c.into_iter-group-iterator.result} c.args.groups.items i.0 (i.1
     ∙ c.args.groups.ok.0)) l.yielded l.group-iterator l.yielded_by c.next.result c.next.new.self c.in-Some.group c.in-Some.is c.next.ensures.steps in
     omega (arith, l.invariant.enough, turn.0, c.in_default.ensures.cases.0, l.callers.ok.0)
+
+pub start_group-requires-clause-caller : goal.start_group-requires-clause-caller
+start_group-requires-clause-caller g c κs within =
+    let P = IsCallerOf c.args.pool.now.ready in
+    all_last P c.pop.new.self.items c.in-Some-pop.caller (subst (All P) c.in-Some-pop.ensures.items c.loop-group.invariant.callers)
+
+pub start_group-requires-clause-ready : goal.start_group-requires-clause-ready
+start_group-requires-clause-ready g c κs within =
+    let i = c.into_iter-group-iterator.ensures.into_iter_gives in let l = c.loop-group in
+    let turn = YieldsList-turn (YieldsList-from_vec {s = c.into_iter-group-iterator.result} c.args.groups.items i.0 (i.1
+    ∙ c.args.groups.ok.0)) l.yielded l.group-iterator l.yielded_by c.next.result c.next.new.self c.in-Some.group c.in-Some.is c.next.ensures.steps in
+    subst (IsGroupFor c.args.own c.args.pool.now) (sym turn.1) (c.requires.ready (length l.yielded) c.in-Some.group turn.0)
