@@ -1,9 +1,7 @@
 //! The machine of steps: what it refuses, and what holds after each step of a schedule, whichever seat stops in it. The schedules
 //! are those of `schedules.rows` and `draining_schedules.rows` in `checks/rows`, which say what each step replies.
 use crate::expect::expect_same;
-use std::alloc::{AllocError, Global};
 use std::process::Abort;
-use std::test::Fail;
 use wq_core::Reply::Held;
 use wq_core::Step::{
     Back, Begin, Chain, Check, Close, Drain, End, Hold, Link, Look, Push, Rest, Resume, Take, Walk,
@@ -121,77 +119,69 @@ fn replay_is_refused_at_its_first_step(rt: HostRuntime) {
 
 /// Makes a step, where it is enabled. False where it is refused for another cause, where the history is then not legal, or
 /// where what has begun does not begin what was accepted.
-fn goes_on(core: &mut Core, layout: &Layout, seat: Seat, step: Step) -> Result<bool, AllocError> {
+fn goes_on<R: Abort>(rt: &R, core: &mut Core, layout: &Layout, seat: Seat, step: Step) -> bool {
     match core.step(seat, step) {
         Ok(_) | Err(StepError::NotEnabled) => {}
-        Err(_) => return Ok(false),
+        Err(_) => return false,
     }
-    let accepted = core.accepted()?;
-    let begun = core.begun()?;
-    Ok(accepted.starts_with(&begun) && check_history(layout, core.history()).is_ok())
+    let accepted = core.accepted().expect(rt, "memory");
+    let begun = core.begun().expect(rt, "memory");
+    accepted.starts_with(&begun) && check_history(layout, core.history()).is_ok()
 }
 
 /// The schedule without the steps of a seat from a place on. The number of steps until the first that does not go on.
-fn steps_without(
-    alloc: Global,
+fn steps_without<R: Abort + AllocGlobal>(
+    rt: &R,
     schedule: &Schedule,
     stopped: Seat,
     place: usize,
-) -> Result<usize, AllocError> {
-    let mut core = Core::new(alloc, *schedule.layout())?;
+) -> usize {
+    let mut core = Core::new(rt.alloc(), *schedule.layout()).expect(rt, "memory");
     for (at, (seat, step)) in schedule.turns().iter().enumerate() {
         if at >= place && *seat == stopped {
             continue;
         }
-        if !goes_on(&mut core, schedule.layout(), *seat, *step)? {
-            return Ok(at);
+        if !goes_on(rt, &mut core, schedule.layout(), *seat, *step) {
+            return at;
         }
     }
-    Ok(schedule.turns().len())
+    schedule.turns().len()
 }
 
 /// A seat stops at each place of a schedule, and at its end: what the others still do is legal, and runs in the order of its
 /// acceptance.
-fn check_stops_of<R: Abort + AllocGlobal>(rt: &R, text: &str, stopped: Seat) -> Result<(), Fail> {
+fn check_stops_of<R: Abort + AllocGlobal>(rt: &R, text: &str, stopped: Seat) {
     let schedule = schedule(rt, text);
     let count = schedule.turns().len();
     for place in 0..=count {
-        let steps = steps_without(rt.alloc(), &schedule, stopped, place)?;
+        let steps = steps_without(rt, &schedule, stopped, place);
         expect_same(
             rt,
             (text, stopped, place, steps),
             (text, stopped, place, count),
         );
     }
-    Ok(())
 }
 
 /// Each seat stops so.
-fn check_stops<R: Abort + AllocGlobal>(rt: &R, text: &str) -> Result<(), Fail> {
+fn check_stops<R: Abort + AllocGlobal>(rt: &R, text: &str) {
     for stopped in [S0, S1, O] {
-        check_stops_of(rt, text, stopped)?;
+        check_stops_of(rt, text, stopped);
     }
-    Ok(())
 }
 
-fn check_stops_of_enabled<R: Abort + AllocGlobal>(rt: &R) -> Result<(), Fail> {
-    for &(text, _, _) in ENABLED {
-        check_stops(rt, text)?;
-    }
-    Ok(())
-}
-
-fn check_stops_of_others<R: Abort + AllocGlobal>(rt: &R) -> Result<(), Fail> {
+fn check_stops_of_others<R: Abort + AllocGlobal>(rt: &R) {
     for &text in OTHERS {
-        check_stops(rt, text)?;
+        check_stops(rt, text);
     }
-    Ok(())
 }
 
 #[test]
-fn each_seat_stops_at_each_place(rt: HostRuntime) -> Result<(), Fail> {
-    check_stops_of_enabled(&rt)?;
-    check_stops_of_others(&rt)
+fn each_seat_stops_at_each_place(rt: HostRuntime) {
+    for &(text, _, _) in ENABLED {
+        check_stops(&rt, text);
+    }
+    check_stops_of_others(&rt);
 }
 
 fn layout<R: Abort>(rt: &R) -> Layout {
@@ -350,11 +340,10 @@ fn drains(rt: HostRuntime) {
 
 /// What a caller has in hand of a core, whatever was done to it.
 #[test]
-fn laws(rt: HostRuntime) -> Result<(), Fail> {
-    let core = Core::new(rt.alloc(), Layout::new(4, 1, 2)?)?;
+fn laws(rt: HostRuntime) {
+    let core = Core::new(rt.alloc(), layout(&rt)).expect(&rt, "memory");
     core.sound();
     each_step_keeps_sound();
     chain_and_batch();
     first_push();
-    Ok(())
 }

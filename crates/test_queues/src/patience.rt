@@ -19,9 +19,12 @@ impl Patience {
 
     /// Whether its time is up, or the clock cannot be read.
     pub(crate) fn is_over<R: Clock>(&self, rt: &R) -> bool {
-        match self.began.map(|it| it.elapsed(rt)) {
-            Some(Ok(passed)) => passed.as_secs() >= SECONDS,
-            _ => true,
+        let Some(began) = self.began else {
+            return true;
+        };
+        match began.elapsed(rt) {
+            Ok(passed) => passed.as_secs() >= SECONDS,
+            Err(_) => true,
         }
     }
 }

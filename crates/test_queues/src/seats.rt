@@ -1,11 +1,12 @@
 //! The seats of a queue with two senders, and their calls where they are allowed.
-ghost use Rattle.std.specs.Prelude.{◌≡◌, ℕ, IfSome};
+ghost use Rattle.std.specs.Prelude.{◌≡◌, [], ℕ};
 ghost use Rattle.wq_words.specs.History.{Holds};
 
 use crate::live::reading::execute_one;
 use std::alloc::Global;
 use std::hint::spin_loop;
 use std::process::Abort;
+use std::thread::{Threads, join};
 use wq_live::{Answer, Owner, Sender, build};
 use wq_words::Layout;
 
@@ -26,18 +27,32 @@ pub(crate) const WAKES: Answer = Answer::Queued {
 };
 
 /// The owner and the two senders of a new queue of so many items and barriers. The second sender holds nothing.
-pub(crate) fn seats(alloc: Global, items: u32, barriers: u32) -> Option<(Owner, Sender, Sender)>
-    ensures first { IfSome result (λ seats. seats.1.queue ≡ seats.0.queue) }
-    ensures second { IfSome result (λ seats. seats.2.queue ≡ seats.0.queue) }
-    ensures free { IfSome result (λ seats. (k : ℕ) → ¬ Holds seats.2.seen seats.2.number k) }
+pub(crate) fn seats<R: Abort>(
+    rt: &R,
+    alloc: Global,
+    items: u32,
+    barriers: u32,
+) -> (Owner, Sender, Sender)
+    ensures first { result.1.queue ≡ result.0.queue }
+    ensures second { result.2.queue ≡ result.0.queue }
+    ensures free { (k : ℕ) → ¬ Holds result.2.seen result.2.number k }
 {
-    let layout = Layout::new(items, barriers, 2).ok()?;
-    let Ok((owner, mut senders)) = build(alloc, layout) else {
-        return None;
-    };
-    let second = senders.pop()?;
-    let first = senders.pop()?;
-    Some((owner, first, second))
+    let layout = Layout::new(items, barriers, 2).expect(rt, "a layout");
+    let (owner, mut senders) = build(alloc, layout).expect(rt, "memory for a queue");
+    let second = senders.pop().expect(rt, "sender 1");
+    let first = senders.pop().expect(rt, "sender 0");
+    (owner, first, second)
+}
+
+/// The owner and the one sender of a new queue of so many items and one barrier.
+pub(crate) fn two_seats<R: Abort>(rt: &R, alloc: Global, items: u32) -> (Owner, Sender)
+    ensures one { result.1.queue ≡ result.0.queue }
+    ensures new { result.0.seen ≡ [] }
+{
+    let layout = Layout::new(items, 1, 1).expect(rt, "a layout");
+    let (owner, mut senders) = build(alloc, layout).expect(rt, "memory for a queue");
+    let sender = senders.pop().expect(rt, "a sender");
+    (owner, sender)
 }
 
 /// Queues an item in one try.
@@ -57,6 +72,42 @@ pub(crate) fn queue_item<R: Abort>(rt: &R, sender: &mut Sender, item: u32) -> An
 {
     assert!(rt; item < sender.layout().items);
     sender.queue_tries(item, 1)
+}
+
+/// Queues an item, in as many tries as a test may take.
+pub(crate) fn queue_settled(sender: &mut Sender, item: u32) -> Option<Answer> {
+    if item < sender.layout().items {
+        Some(sender.queue_tries(item, u32::MAX))
+    } else {
+        None
+    }
+}
+
+/// Queues items in order, each once. How many were queued.
+pub(crate) fn queue_all(sender: &mut Sender, from: u32, to: u32) -> u32 {
+    let mut queued = 0u32;
+    for item in from..to {
+        if let Some(Answer::Queued { .. }) = queue_settled(sender, item) {
+            queued = queued.saturating_add(1);
+        }
+    }
+    queued
+}
+
+/// Two threads queue a half of the items each, from this one on. How many each of them queued.
+pub(crate) fn queue_halves<R: Threads + Sync>(
+    rt: &R,
+    first: &mut Sender,
+    second: &mut Sender,
+    from: u32,
+    half: u32,
+) -> (u32, u32) {
+    let middle = from.wrapping_add(half);
+    join(
+        rt,
+        || queue_all(first, from, middle),
+        || queue_all(second, middle, middle.wrapping_add(half)),
+    )
 }
 
 /// Queues the first item and executes what waits, over and over, until the last number was executed.

@@ -63,10 +63,11 @@ const NO_SEAT: Option<HistoryFault> = Some(HistoryFault::NoSeat);
 fn check<R: Abort>(rt: &R, history: &[Event], fault: Option<HistoryFault>) {
     let layout = Layout::new(2, 1, 2).expect(rt, "a layout");
     let found = check_history(&layout, history).err();
-    let wanted = fault.map(|kind| HistoryError {
-        place: history.len().saturating_sub(1),
-        kind,
-    });
+    let place = history.len().saturating_sub(1);
+    let wanted = match fault {
+        Some(kind) => Some(HistoryError { place, kind }),
+        None => None,
+    };
     expect_same(rt, (history, found), (history, wanted));
 }
 

@@ -9,4 +9,4 @@ mod draining;
 mod resting;
 mod serving;
 mod stopping;
-mod team;
+pub(crate) mod team;

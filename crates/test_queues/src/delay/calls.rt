@@ -1,20 +1,26 @@
 //! A queue with a delay table over its second sender, and the calls of the table where they are allowed, each with one try.
-ghost use Rattle.std.specs.Prelude.{◌≡◌, IfSome};
+ghost use Rattle.std.specs.Prelude.{◌≡◌};
 
 use crate::seats::seats;
 use std::alloc::Global;
-use wq_delay::{Advance, Armed, Delay, Modified, NoRoom};
+use std::process::Abort;
+use wq_delay::{Advance, Armed, Delay, Modified};
 use wq_live::{Owner, Sender};
 
 /// The owner and the first sender of a new queue of so many items, and a delay table at this tick over the second.
-pub(crate) fn delayed(alloc: Global, items: u32, now: u64) -> Option<(Owner, Sender, Delay)>
-    ensures { IfSome result (λ seats. seats.2.sender.queue ≡ seats.1.queue) }
+pub(crate) fn delayed<R: Abort>(
+    rt: &R,
+    alloc: Global,
+    items: u32,
+    now: u64,
+) -> (Owner, Sender, Delay)
+    ensures { result.2.sender.queue ≡ result.1.queue }
 {
-    let (owner, first, second) = seats(alloc, items, 1)?;
-    match Delay::new(alloc, second, now) {
-        Ok(delay) => Some((owner, first, delay)),
-        Err(NoRoom { .. }) => None,
-    }
+    let (owner, first, second) = seats(rt, alloc, items, 1);
+    let Ok(delay) = Delay::new(alloc, second, now) else {
+        panic!(rt; "no memory for a table")
+    };
+    (owner, first, delay)
 }
 
 /// Queues an item in so many ticks.

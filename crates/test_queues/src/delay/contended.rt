@@ -3,8 +3,7 @@ use super::calls::{advance, arm, cancel, delayed, modify};
 use crate::expect::expect_same;
 use crate::patience::Patience;
 use crate::seats::{churn, pause};
-use std::test::Fail;
-use std::thread::join_mut;
+use std::thread::join;
 use std::time::Clock;
 use wq_delay::{Armed, Delay, Modified};
 
@@ -49,14 +48,13 @@ fn contend<R: Clock>(rt: &R, delay: &mut Delay) -> [bool; 3] {
 
 /// A try is lost where another thread stepped in between: of an arming without delay, a change of delay to none, and an advance.
 #[test]
-fn each_call_of_a_table_is_contended(rt: HostRuntime) -> Result<(), Fail> {
-    let (mut owner, mut sender, mut delay) = delayed(rt.alloc(), 4, 0).expect(&rt, "seats");
-    let (contended, ended) = join_mut(
+fn each_call_of_a_table_is_contended(rt: HostRuntime) {
+    let (mut owner, mut sender, mut delay) = delayed(&rt, rt.alloc(), 4, 0);
+    let (contended, ended) = join(
         &rt,
-        &mut || contend(&rt, &mut delay),
-        &mut || churn(&mut owner, &mut sender, LAST),
+        || contend(&rt, &mut delay),
+        || churn(&mut owner, &mut sender, LAST),
     );
     assert!(rt; ended);
     expect_same(&rt, contended, [true; 3]);
-    Ok(())
 }

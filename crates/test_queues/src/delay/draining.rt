@@ -5,8 +5,7 @@ use crate::live::reading::{close, drain, execute_one, resume};
 use crate::seats::{FIRST, queue_once};
 use std::alloc::Global;
 use std::process::Abort;
-use std::test::Fail;
-use std::thread::{Threads, join_mut, yield_now};
+use std::thread::{Threads, join, yield_now};
 use wq_delay::{Armed, Delay, Modified};
 use wq_live::{Answer, Owner, Sender};
 
@@ -67,8 +66,8 @@ fn check_order<R: Abort>(rt: &R, owner: &mut Owner, order: &[u32]) {
 /// An advance within a drain posts nothing and drops nothing, however often it is made. After the resume what is left goes out
 /// first, in its order, before what is due later.
 #[test]
-fn advance_goes_on_after_the_resume(rt: HostRuntime) -> Result<(), Fail> {
-    let (mut owner, mut sender, mut delay) = delayed(rt.alloc(), 8, 0).expect(&rt, "seats");
+fn advance_goes_on_after_the_resume(rt: HostRuntime) {
+    let (mut owner, mut sender, mut delay) = delayed(&rt, rt.alloc(), 8, 0);
     arm_and_drain(&rt, &mut delay, &mut owner);
     for now in [0, 2, 4, 300, 300] {
         let said = advance(&mut delay, now);
@@ -81,13 +80,12 @@ fn advance_goes_on_after_the_resume(rt: HostRuntime) -> Result<(), Fail> {
     expect_same(&rt, advance(&mut delay, 301), Some((5, 0, 0)));
     expect_same(&rt, on_table(&delay), [NO; 8]);
     check_order(&rt, &mut owner, &[3, 5, 2, 0, 7, 1]);
-    Ok(())
 }
 
 /// A close that ends a drain has what was left given back, as on any closed queue.
 #[test]
-fn advance_gives_back_after_a_close(rt: HostRuntime) -> Result<(), Fail> {
-    let (mut owner, mut sender, mut delay) = delayed(rt.alloc(), 8, 0).expect(&rt, "seats");
+fn advance_gives_back_after_a_close(rt: HostRuntime) {
+    let (mut owner, mut sender, mut delay) = delayed(&rt, rt.alloc(), 8, 0);
     arm_and_drain(&rt, &mut delay, &mut owner);
     expect_same(&rt, advance(&mut delay, 3), Some((0, 0, 4)));
     expect_same(&rt, close(&mut owner), Some(0));
@@ -95,7 +93,6 @@ fn advance_gives_back_after_a_close(rt: HostRuntime) -> Result<(), Fail> {
     expect_same(&rt, on_table(&delay), [NO, NO, NO, NO, NO, NO, NO, YES]);
     expect_same(&rt, queue_once(&mut sender, 0), Some(Answer::Closed));
     expect_same(&rt, queue_once(&mut sender, 7), Some(Answer::Pending));
-    Ok(())
 }
 
 /// What would be due at once is answered by the drain, or by what is pending, and changes nothing.
@@ -118,23 +115,22 @@ fn check_too_far<R: Abort>(rt: &R, delay: &mut Delay, item: u32) {
 /// Within a drain an arming or a change of delay to none is answered so: an item on the table keeps its place, and of any other
 /// nothing is held. A delay that is too far is so in a drain too.
 #[test]
-fn calls_within_a_drain(rt: HostRuntime) -> Result<(), Fail> {
-    let (mut owner, mut sender, mut delay) = delayed(rt.alloc(), 8, 0).expect(&rt, "seats");
+fn calls_within_a_drain(rt: HostRuntime) {
+    let (mut owner, mut sender, mut delay) = delayed(&rt, rt.alloc(), 8, 0);
     arm_and_drain(&rt, &mut delay, &mut owner);
     for _ in 0..2u32 {
         check_refused(&rt, &mut delay, &mut sender);
     }
     check_too_far(&rt, &mut delay, 0);
     check_too_far(&rt, &mut delay, 1);
-    let due = delay.due_list(9)?;
+    let due = delay.due_list(9).expect(&rt, "memory");
     expect_same(&rt, due.as_slice(), [5, 2, 0, 7].as_slice());
-    Ok(())
 }
 
 /// Calls that post nothing are as ever within a drain: an item is armed, moved behind others of its tick, and cancelled.
 #[test]
-fn table_changes_within_a_drain(rt: HostRuntime) -> Result<(), Fail> {
-    let (mut owner, mut sender, mut delay) = delayed(rt.alloc(), 8, 0).expect(&rt, "seats");
+fn table_changes_within_a_drain(rt: HostRuntime) {
+    let (mut owner, mut sender, mut delay) = delayed(&rt, rt.alloc(), 8, 0);
     arm_and_drain(&rt, &mut delay, &mut owner);
     expect_same(&rt, advance(&mut delay, 3), Some((0, 0, 4)));
     expect_same(&rt, arm(&mut delay, 4, 6), Some(Armed::OnTable));
@@ -147,7 +143,6 @@ fn table_changes_within_a_drain(rt: HostRuntime) -> Result<(), Fail> {
     expect_same(&rt, resume(&mut owner), true);
     expect_same(&rt, advance(&mut delay, 9), Some((5, 0, 0)));
     check_order(&rt, &mut owner, &[0, 3, 7, 4, 2]);
-    Ok(())
 }
 
 /// How many items a thread lets go beside drains.
@@ -205,15 +200,15 @@ fn drain_through(owner: &mut Owner) -> bool {
 
 /// Lets all items go beside drains: how many advances left something that was due.
 fn all_goes_out<R: Abort + Threads + Sync>(rt: &R, alloc: Global) -> u32 {
-    let (mut owner, _sender, mut delay) = delayed(alloc, ITEMS, 0).expect(rt, "seats");
+    let (mut owner, _sender, mut delay) = delayed(rt, alloc, ITEMS, 0);
     for item in 0..ITEMS {
         let ticks = u64::from(item).saturating_add(1);
         expect_same(rt, arm(&mut delay, item, ticks), Some(Armed::OnTable));
     }
-    let (left, executed) = join_mut(
+    let (left, executed) = join(
         rt,
-        &mut || advance_through(&mut delay),
-        &mut || drain_through(&mut owner),
+        || advance_through(&mut delay),
+        || drain_through(&mut owner),
     );
     assert!(rt; executed);
     left.expect(rt, "an end")
@@ -221,11 +216,10 @@ fn all_goes_out<R: Abort + Threads + Sync>(rt: &R, alloc: Global) -> u32 {
 
 /// A table is led on in one thread while the owner drains in another: all goes out, once and in order.
 #[test]
-fn all_goes_out_beside_drains(rt: HostRuntime) -> Result<(), Fail> {
+fn all_goes_out_beside_drains(rt: HostRuntime) {
     let mut stopped = 0u32;
     for _ in 0..20u32 {
         stopped = stopped.saturating_add(all_goes_out(&rt, rt.alloc()));
     }
     assert!(rt; stopped > 0);
-    Ok(())
 }

@@ -24,7 +24,7 @@ fn arm_all<R: Abort>(rt: &R, delay: &mut Delay) {
 
 #[test]
 fn looks_at_one_slot_a_tick(rt: HostRuntime) {
-    let (_owner, _sender, mut delay) = delayed(rt.alloc(), 4, 0).expect(&rt, "seats");
+    let (_owner, _sender, mut delay) = delayed(&rt, rt.alloc(), 4, 0);
     arm_all(&rt, &mut delay);
     expect_same(&rt, delay.looked(), 0);
     for &(now, said, looked) in JUMPED {

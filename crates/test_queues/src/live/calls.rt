@@ -2,22 +2,12 @@
 mod draining;
 mod refused;
 
-ghost use Rattle.std.specs.Prelude.{◌≡◌, IfSome};
-
 use super::reading::{begin, chain, close, end, execute_one, take};
 use crate::expect::expect_same;
-use crate::seats::{QUEUED, WAKES, queue_once};
-use std::alloc::Global;
+use crate::seats::{QUEUED, WAKES, queue_once, seats};
 use std::process::Abort;
 use std::sync::Wait;
 use wq_live::{Answer, Done, Owner, OwnerCounts, Posted, Sender, SenderCounts};
-
-/// A queue of 4 items, 2 barriers and 2 senders.
-fn seats(alloc: Global) -> Option<(Owner, Sender, Sender)>
-    ensures { IfSome result (λ seats. (seats.1.queue ≡ seats.0.queue) × (seats.2.queue ≡ seats.0.queue)) }
-{
-    crate::seats::seats(alloc, 4, 2)
-}
 
 /// Holds an item, and then posts it or gives it back. None where it was pending.
 fn hold_then(sender: &mut Sender, item: u32, post: bool) -> Option<Posted> {
@@ -32,7 +22,7 @@ fn hold_then(sender: &mut Sender, item: u32, post: bool) -> Option<Posted> {
 }
 
 /// Holds an item and posts it, and gives it back where the queue drains. None where it was pending.
-fn post_or_give_back(sender: &mut Sender, item: u32) -> Option<Posted> {
+pub(super) fn post_or_give_back(sender: &mut Sender, item: u32) -> Option<Posted> {
     if item >= sender.layout().items || !sender.hold(item) {
         return None;
     }
@@ -116,7 +106,7 @@ fn check_counts<R: Abort>(rt: &R, sender: &Sender, queued: u64, pending: u64, cl
 
 #[test]
 fn senders_queue_each_item_once(rt: HostRuntime) {
-    let (mut owner, mut first, mut second) = seats(rt.alloc()).expect(&rt, "seats");
+    let (mut owner, mut first, mut second) = seats(&rt, rt.alloc(), 4, 2);
     expect_same(&rt, (first.number(), second.number()), (0, 1));
     queue_items(&rt, &mut first, &mut second);
     expect_same(&rt, flush_once(&mut first, 1), Some(QUEUED));
@@ -152,7 +142,7 @@ fn execute_what_was_chained<R: Abort>(rt: &R, owner: &mut Owner) {
 
 #[test]
 fn closed_queue_takes_chained_items_alone(rt: HostRuntime) {
-    let (mut owner, mut first, mut second) = seats(rt.alloc()).expect(&rt, "seats");
+    let (mut owner, mut first, mut second) = seats(&rt, rt.alloc(), 4, 2);
     expect_same(&rt, second.request_stop(1), WAKES);
     expect_same(&rt, chain(&mut owner, 1), None);
     expect_same(&rt, close(&mut owner), Some(1));
@@ -165,7 +155,7 @@ fn closed_queue_takes_chained_items_alone(rt: HostRuntime) {
 
 #[test]
 fn owner_takes_what_was_queued_before_it_met(rt: HostRuntime) {
-    let (mut owner, mut first, mut second) = seats(rt.alloc()).expect(&rt, "seats");
+    let (mut owner, mut first, mut second) = seats(&rt, rt.alloc(), 4, 2);
     expect_same(&rt, queue_once(&mut first, 2), Some(WAKES));
     first.meet_owner(&mut owner);
     second.meet(&mut first);

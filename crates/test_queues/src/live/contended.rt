@@ -1,8 +1,7 @@
 //! Calls with one try each, of which some are lost to the steps of another thread.
 use crate::expect::expect_same;
 use crate::seats::{churn, pause, queue_once, seats};
-use std::test::Fail;
-use std::thread::join_mut;
+use std::thread::join;
 use wq_live::{Answer, Posted, Sender};
 
 /// How often each call is made at most.
@@ -55,14 +54,13 @@ fn contend(sender: &mut Sender) -> [bool; 4] {
 
 /// A try is lost where another thread stepped in between: of a queueing, a flush, a request to stop, and a push of what is held.
 #[test]
-fn each_call_of_a_sender_is_contended(rt: HostRuntime) -> Result<(), Fail> {
-    let (mut owner, mut first, mut second) = seats(rt.alloc(), 4, 2).expect(&rt, "seats");
-    let (contended, ended) = join_mut(
+fn each_call_of_a_sender_is_contended(rt: HostRuntime) {
+    let (mut owner, mut first, mut second) = seats(&rt, rt.alloc(), 4, 2);
+    let (contended, ended) = join(
         &rt,
-        &mut || contend(&mut first),
-        &mut || churn(&mut owner, &mut second, LAST),
+        || contend(&mut first),
+        || churn(&mut owner, &mut second, LAST),
     );
     assert!(rt; ended);
     expect_same(&rt, contended, [true; 4]);
-    Ok(())
 }

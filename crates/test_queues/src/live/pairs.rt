@@ -4,10 +4,9 @@ ghost use Rattle.wq_words.specs.History.{ended, IsRunning, IsShut};
 ghost use Rattle.wq_live.specs.Batch.{batch};
 
 use crate::expect::expect_same;
-use crate::seats::{FIRST, WAKES};
+use crate::seats::{FIRST, WAKES, two_seats};
 use std::process::Abort;
-use wq_live::{Answer, Owner, Pair, Sender, build};
-use wq_words::Layout;
+use wq_live::{Answer, Owner, Pair, Sender};
 
 /// The next execution, within which the sender of the same seat queues an item. Which number it was, and the answer.
 fn queue_within(pair: &mut Pair, item: u32) -> (u32, Answer)
@@ -48,8 +47,6 @@ fn run_twice<R: Abort>(rt: &R, owner: Owner, sender: Sender)
 /// The sender in an owner's seat queues anew what the owner runs.
 #[test]
 fn pair_queues_what_it_runs(rt: HostRuntime) {
-    let layout = Layout::new(1, 1, 1).expect(&rt, "a size");
-    let (owner, mut senders) = build(rt.alloc(), layout).expect(&rt, "room");
-    let sender = senders.pop().expect(&rt, "a sender");
+    let (owner, sender) = two_seats(&rt, rt.alloc(), 1);
     run_twice(&rt, owner, sender);
 }

@@ -5,9 +5,10 @@ mod draining;
 use super::reading::{begin, close, end, execute_one, take};
 use crate::expect::expect_same;
 use crate::latch::Latch;
-use crate::seats::{FIRST, QUEUED, WAKES, queue_once, seats};
-use std::test::Fail;
-use std::thread::{Threads, join_mut, yield_now};
+use crate::seats::{
+    FIRST, QUEUED, WAKES, queue_all, queue_halves, queue_once, queue_settled, seats,
+};
+use std::thread::{Threads, join, yield_now};
 use wq_live::{Answer, Done, Owner, Posted, Sender};
 
 /// Sets an item's PENDING bit, and whether it was clear.
@@ -17,8 +18,8 @@ fn hold(sender: &mut Sender, item: u32) -> bool {
 
 /// What an owner took stays pending when it stops, and all else is queued.
 #[test]
-fn owner_stops_with_a_batch(rt: HostRuntime) -> Result<(), Fail> {
-    let (mut owner, mut first, mut second) = seats(rt.alloc(), 4, 1).expect(&rt, "seats");
+fn owner_stops_with_a_batch(rt: HostRuntime) {
+    let (mut owner, mut first, mut second) = seats(&rt, rt.alloc(), 4, 1);
     expect_same(&rt, queue_once(&mut first, 0), Some(WAKES));
     expect_same(&rt, queue_once(&mut first, 1), Some(QUEUED));
     expect_same(&rt, take(&mut owner), Some(2));
@@ -40,39 +41,17 @@ fn owner_stops_with_a_batch(rt: HostRuntime) -> Result<(), Fail> {
             (item, Some(Answer::Pending)),
         );
     }
-    Ok(())
 }
 
 /// What a sender held stays pending when it stops, and the queue is closed and run to its end.
 #[test]
-fn sender_stops_with_an_item(rt: HostRuntime) -> Result<(), Fail> {
-    let (mut owner, mut first, mut second) = seats(rt.alloc(), 4, 1).expect(&rt, "seats");
+fn sender_stops_with_an_item(rt: HostRuntime) {
+    let (mut owner, mut first, mut second) = seats(&rt, rt.alloc(), 4, 1);
     assert!(rt; hold(&mut first, 2));
     drop(first);
     expect_same(&rt, queue_once(&mut second, 2), Some(Answer::Pending));
     expect_same(&rt, close(&mut owner), Some(0));
     expect_same(&rt, owner.done(), Some(Done { ended: 0 }));
-    Ok(())
-}
-
-/// Queues an item, in as many tries as a test may take.
-fn queue_settled(sender: &mut Sender, item: u32) -> Option<Answer> {
-    if item < sender.layout().items {
-        Some(sender.queue_tries(item, u32::MAX))
-    } else {
-        None
-    }
-}
-
-/// Queues items, each once.
-fn queue_all(sender: &mut Sender, from: u32, to: u32) -> u32 {
-    let mut queued = 0u32;
-    for item in from..to {
-        if let Some(Answer::Queued { .. }) = queue_settled(sender, item) {
-            queued = queued.saturating_add(1);
-        }
-    }
-    queued
 }
 
 /// Executes what comes until all that is to come was queued, and answers how many that were.
@@ -149,10 +128,10 @@ fn end_beside<R: Threads + Sync>(
     }
     let first = queue_once(sender, 0);
     let ended = Latch::new();
-    let (queued, executed) = join_mut(
+    let (queued, executed) = join(
         rt,
-        &mut || queue_last(sender, 8, 72, &ended),
-        &mut || execute_all(owner, &ended),
+        || queue_last(sender, 8, 72, &ended),
+        || execute_all(owner, &ended),
     );
     let others = Others {
         first,
@@ -168,7 +147,7 @@ fn end_beside<R: Threads + Sync>(
 /// A sender stops at each place: before its hold, with an item held, with a push that nobody was woken for, and between two
 /// queueings. The other and the owner come to their ends before it goes on, and it finds the queue closed.
 #[test]
-fn others_end_while_a_sender_stops(rt: HostRuntime) -> Result<(), Fail> {
+fn others_end_while_a_sender_stops(rt: HostRuntime) {
     let closed = Answer::Closed;
     let rows = [
         (WAKES, 65, [closed, closed, closed]),
@@ -177,12 +156,12 @@ fn others_end_while_a_sender_stops(rt: HostRuntime) -> Result<(), Fail> {
         (Answer::Pending, 66, [WAKES, QUEUED, closed]),
     ];
     for (place, (first, accepted, answers)) in (0..4u32).zip(rows) {
-        let (mut owner, mut stopped, mut other) = seats(rt.alloc(), 72, 1).expect(&rt, "seats");
+        let (mut owner, mut stopped, mut other) = seats(&rt, rt.alloc(), 72, 1);
         let latch = Latch::new();
-        let (others, said) = join_mut(
+        let (others, said) = join(
             &rt,
-            &mut || end_beside(&rt, &mut owner, &mut other, &latch),
-            &mut || queue_in_steps(&mut stopped, place, &latch),
+            || end_beside(&rt, &mut owner, &mut other, &latch),
+            || queue_in_steps(&mut stopped, place, &latch),
         );
         let want = Others {
             first: Some(first),
@@ -196,7 +175,6 @@ fn others_end_while_a_sender_stops(rt: HostRuntime) -> Result<(), Fail> {
         expect_same(&rt, (place, others), (place, Some(want)));
         expect_same(&rt, (place, said), (place, Some(answers)));
     }
-    Ok(())
 }
 
 /// Takes what was queued and begins it, stops, and then executes the rest. How many numbers those are.
@@ -209,7 +187,8 @@ fn execute_and_stop(owner: &mut Owner, latch: &Latch) -> Option<u32> {
     Some(execute_all(owner, latch))
 }
 
-/// Once the owner has stopped, both senders queue what runs, what it has taken, and their own items.
+/// Once the owner has stopped, both senders queue what runs, what it has taken, and their own items. Of the last it says how many
+/// were queued.
 fn queue_beside<R: Threads + Sync>(
     rt: &R,
     first: &mut Sender,
@@ -221,11 +200,7 @@ fn queue_beside<R: Threads + Sync>(
     }
     let running = queue_once(first, 0)?;
     let taken = queue_once(second, 1)?;
-    let (one, other) = join_mut(
-        rt,
-        &mut || queue_all(first, 8, 40),
-        &mut || queue_all(second, 40, 72),
-    );
+    let (one, other) = queue_halves(rt, first, second, 8, 32);
     latch.open();
     Some((running, taken, one, other))
 }
@@ -233,19 +208,18 @@ fn queue_beside<R: Threads + Sync>(
 /// The owner stops while an item runs and another is taken. Both senders come to their ends before it goes on, and it executes all
 /// that they queued.
 #[test]
-fn senders_end_while_the_owner_stops(rt: HostRuntime) -> Result<(), Fail> {
-    let (mut owner, mut first, mut second) = seats(rt.alloc(), 72, 1).expect(&rt, "seats");
+fn senders_end_while_the_owner_stops(rt: HostRuntime) {
+    let (mut owner, mut first, mut second) = seats(&rt, rt.alloc(), 72, 1);
     expect_same(&rt, queue_once(&mut first, 0), Some(WAKES));
     expect_same(&rt, queue_once(&mut second, 1), Some(QUEUED));
     let latch = Latch::new();
-    let (answers, executed) = join_mut(
+    let (answers, executed) = join(
         &rt,
-        &mut || queue_beside(&rt, &mut first, &mut second, &latch),
-        &mut || execute_and_stop(&mut owner, &latch),
+        || queue_beside(&rt, &mut first, &mut second, &latch),
+        || execute_and_stop(&mut owner, &latch),
     );
     expect_same(&rt, answers, Some((FIRST, Answer::Pending, 32, 32)));
     expect_same(&rt, executed, Some(66));
     expect_same(&rt, close(&mut owner), Some(0));
     expect_same(&rt, owner.done(), Some(Done { ended: 67 }));
-    Ok(())
 }

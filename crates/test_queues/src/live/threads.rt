@@ -1,36 +1,13 @@
 //! Senders and the owner in threads of their own.
 use super::reading::{close, execute_one};
 use crate::expect::expect_same;
-use crate::seats::seats;
+use crate::seats::{queue_all, queue_halves, seats, two_seats};
 use std::process::Abort;
 use std::sync::Wait;
 use std::sync::atomic::AtomicU64;
 use std::sync::atomic::Ordering::SeqCst;
-use std::test::Fail;
-use std::thread::{Threads, join_mut, yield_now};
-use wq_live::{Answer, Owner, Sender, build};
-use wq_words::Layout;
-
-/// Queues these items in order, each again where it was contended, at most 1,000 times. Answers how many were queued.
-fn queue_all(sender: &mut Sender, from: u32, to: u32) -> u32 {
-    let mut queued = 0u32;
-    for item in from..to {
-        for _ in 0..1000u32 {
-            if item >= sender.layout().items {
-                return queued;
-            }
-            match sender.queue_tries(item, 1000) {
-                Answer::Queued { .. } => {
-                    queued = queued.wrapping_add(1);
-                    break;
-                }
-                Answer::Contended => {}
-                Answer::Pending | Answer::Closed | Answer::Draining => break,
-            }
-        }
-    }
-    queued
-}
+use std::thread::{join, yield_now};
+use wq_live::{Answer, Owner, Sender};
 
 /// Executes what waits, for so many rounds, and appends the numbers in order.
 fn execute_for(owner: &mut Owner, rounds: u32, into: &mut Vec<u32>) -> bool {
@@ -61,20 +38,6 @@ fn in_order(numbers: &[u32], from: u32, to: u32) -> bool {
     next == to
 }
 
-/// Two threads queue a half of the items each. How many each of them queued.
-fn queue_halves<R: Threads + Sync>(
-    rt: &R,
-    first: &mut Sender,
-    second: &mut Sender,
-    half: u32,
-) -> (u32, u32) {
-    join_mut(
-        rt,
-        &mut || queue_all(first, 0, half),
-        &mut || queue_all(second, half, half.wrapping_mul(2)),
-    )
-}
-
 /// Both halves have run, each in its sender's order, and nothing is left.
 fn expect_halves<R: Abort>(rt: &R, owner: &Owner, executed: &[u32], half: u32) {
     let all = half.wrapping_mul(2);
@@ -86,8 +49,8 @@ fn expect_halves<R: Abort>(rt: &R, owner: &Owner, executed: &[u32], half: u32) {
 
 #[test]
 fn two_threads_queue_in_their_order(rt: HostRuntime) {
-    let (mut owner, mut first, mut second) = seats(rt.alloc(), 128, 1).expect(&rt, "seats");
-    let queued = queue_halves(&rt, &mut first, &mut second, 64);
+    let (mut owner, mut first, mut second) = seats(&rt, rt.alloc(), 128, 1);
+    let queued = queue_halves(&rt, &mut first, &mut second, 0, 64);
     expect_same(&rt, queued, (64, 64));
     expect_same(&rt, close(&mut owner), Some(128));
     let mut executed = Vec::new(rt.alloc());
@@ -141,23 +104,20 @@ fn execute_beside<R: Abort + Wait>(
 
 /// What has begun is queued again, and linked anew, while others of its batch wait.
 #[test]
-fn items_are_queued_again_while_a_batch_waits(rt: HostRuntime) -> Result<(), Fail> {
-    let layout = Layout::new(4, 1, 1)?;
-    let (mut owner, mut senders) = build(rt.alloc(), layout)?;
-    let mut sender = senders.pop().expect(&rt, "sender 0");
+fn items_are_queued_again_while_a_batch_waits(rt: HostRuntime) {
+    let (mut owner, mut sender) = two_seats(&rt, rt.alloc(), 4);
     let mut executed = Vec::new(rt.alloc());
     let is_done = AtomicU64::new(0);
-    let (queued, ()) = join_mut(
+    let (queued, ()) = join(
         &rt,
-        &mut || queue_again(&rt, &mut sender, &is_done),
-        &mut || execute_beside(&rt, &mut owner, &is_done, &mut executed),
+        || queue_again(&rt, &mut sender, &is_done),
+        || execute_beside(&rt, &mut owner, &is_done, &mut executed),
     );
     assert!(rt; queued >= 1000, "{queued}");
     assert!(rt; close(&mut owner).is_some());
     assert!(rt; execute_for(&mut owner, 4, &mut executed));
     expect_same(&rt, executed.len(), queued as usize);
     assert!(rt; owner.done().is_some());
-    Ok(())
 }
 
 /// Flushes by barrier 0. True where the barrier was queued and has been executed.
@@ -189,17 +149,14 @@ fn execute_until<R: Wait>(rt: &R, owner: &mut Owner, last: u32) -> u32 {
 }
 
 #[test]
-fn flush_returns_beside_an_owner(rt: HostRuntime) -> Result<(), Fail> {
-    let layout = Layout::new(16, 1, 1)?;
-    let (mut owner, mut senders) = build(rt.alloc(), layout)?;
-    let mut sender = senders.pop().expect(&rt, "sender 0");
+fn flush_returns_beside_an_owner(rt: HostRuntime) {
+    let (mut owner, mut sender) = two_seats(&rt, rt.alloc(), 16);
     expect_same(&rt, queue_all(&mut sender, 0, 16), 16);
-    let (flushed, executed) = join_mut(
+    let (flushed, executed) = join(
         &rt,
-        &mut || flush(&rt, &mut sender),
-        &mut || execute_until(&rt, &mut owner, 16),
+        || flush(&rt, &mut sender),
+        || execute_until(&rt, &mut owner, 16),
     );
     assert!(rt; flushed);
     expect_same(&rt, executed, 17);
-    Ok(())
 }

@@ -2,8 +2,7 @@
 use super::reading::{execute_one, given_back};
 use super::threads::{Parcel, make_parcel};
 use crate::expect::expect_same;
-use std::test::Fail;
-use std::thread::{Threads, join_mut};
+use std::thread::{Threads, join};
 use wq_live::Answer;
 use wq_values::{ValueOwner, ValueSender, build_values};
 use wq_words::Layout;
@@ -63,28 +62,30 @@ fn queue_by_two<R: Threads + Sync>(
     second: &mut ValueSender<Parcel>,
     rounds: u32,
 ) -> ((u32, bool), (u32, bool)) {
-    let both = join_mut(
+    let both = join(
         rt,
-        &mut || queue_again(first, 0, rounds),
-        &mut || queue_again(second, 1, rounds),
+        || queue_again(first, 0, rounds),
+        || queue_again(second, 1, rounds),
     );
     first.request_stop(u32::MAX);
     both
 }
 
 #[test]
-fn item_that_begins_is_handed_its_own_value(rt: HostRuntime) -> Result<(), Fail> {
-    let layout = Layout::new(1, 1, 2)?;
-    let (mut owner, mut senders) = build_values(rt.alloc(), layout)?;
+fn item_that_begins_is_handed_its_own_value(rt: HostRuntime) {
+    let layout = Layout::new(1, 1, 2).expect(&rt, "a layout");
+    let (mut owner, mut senders) = build_values(rt.alloc(), layout).expect(
+        &rt,
+        "memory for a queue",
+    );
     let mut second = senders.pop().expect(&rt, "sender 1");
     let mut first = senders.pop().expect(&rt, "sender 0");
-    let (queued, executed) = join_mut(
+    let (queued, executed) = join(
         &rt,
-        &mut || queue_by_two(&rt, &mut first, &mut second, 300_000),
-        &mut || execute_rising(&mut owner, 2),
+        || queue_by_two(&rt, &mut first, &mut second, 300_000),
+        || execute_rising(&mut owner, 2),
     );
     let (even, odd) = queued;
     expect_same(&rt, (even.1, odd.1), (true, true));
     expect_same(&rt, executed, Some(even.0.wrapping_add(odd.0)));
-    Ok(())
 }

@@ -4,7 +4,6 @@ use crate::expect::expect_same;
 use std::alloc::Global;
 use std::process::Abort;
 use std::sync::Arc;
-use std::test::Fail;
 use wq_live::Answer;
 use wq_values::{ValueOwner, ValueSender};
 
@@ -34,14 +33,14 @@ fn start<R: Abort>(
     rt: &R,
     alloc: Global,
 ) -> (ValueOwner<Arc<u32>>, ValueSender<Arc<u32>>, Arc<u32>) {
-    let (owner, sender) = seats(alloc, 4).expect(rt, "seats");
+    let (owner, sender) = seats(rt, alloc, 4);
     let shared = Arc::new(alloc, 7u32).expect(rt, "a value");
     (owner, sender, shared)
 }
 
 /// A value lives until the execution that was handed it drops it, and one that is refused until its caller does.
 #[test]
-fn executed_and_refused_values_are_dropped_once(rt: HostRuntime) -> Result<(), Fail> {
+fn executed_and_refused_values_are_dropped_once(rt: HostRuntime) {
     let (mut owner, mut sender, shared) = start(&rt, rt.alloc());
     queue_each(&rt, &mut sender, 3, &shared);
     expect_same(&rt, alive(&shared), 3);
@@ -62,12 +61,11 @@ fn executed_and_refused_values_are_dropped_once(rt: HostRuntime) -> Result<(), F
     drop(owner);
     drop(sender);
     expect_same(&rt, alive(&shared), 0);
-    Ok(())
 }
 
 /// What is on the list, in the batch, or chained when all seats have gone is dropped once, with the last of them.
 #[test]
-fn values_that_never_begin_are_dropped_with_the_queue(rt: HostRuntime) -> Result<(), Fail> {
+fn values_that_never_begin_are_dropped_with_the_queue(rt: HostRuntime) {
     let (mut owner, mut sender, shared) = start(&rt, rt.alloc());
     queue_each(&rt, &mut sender, 2, &shared);
     expect_same(&rt, take(&mut owner), Some(2));
@@ -79,24 +77,22 @@ fn values_that_never_begin_are_dropped_with_the_queue(rt: HostRuntime) -> Result
     drop(owner);
     drop(sender);
     expect_same(&rt, alive(&shared), 0);
-    Ok(())
 }
 
 /// An owner that never took: what was queued goes with the sender, the last seat.
 #[test]
-fn values_that_were_never_taken_are_dropped_with_the_queue(rt: HostRuntime) -> Result<(), Fail> {
+fn values_that_were_never_taken_are_dropped_with_the_queue(rt: HostRuntime) {
     let (owner, mut sender, shared) = start(&rt, rt.alloc());
     queue_each(&rt, &mut sender, 4, &shared);
     drop(owner);
     expect_same(&rt, alive(&shared), 4);
     drop(sender);
     expect_same(&rt, alive(&shared), 0);
-    Ok(())
 }
 
 /// A sender that stops leaves the values of what it queued, and the owner executes them.
 #[test]
-fn sender_stops_and_its_values_are_executed(rt: HostRuntime) -> Result<(), Fail> {
+fn sender_stops_and_its_values_are_executed(rt: HostRuntime) {
     let (mut owner, mut sender, shared) = start(&rt, rt.alloc());
     queue_each(&rt, &mut sender, 4, &shared);
     drop(sender);
@@ -115,5 +111,4 @@ fn sender_stops_and_its_values_are_executed(rt: HostRuntime) -> Result<(), Fail>
             (true, left),
         );
     }
-    Ok(())
 }

@@ -5,8 +5,7 @@ use crate::expect::expect_same;
 use crate::seats::{QUEUED, WAKES};
 use std::process::Abort;
 use std::sync::{Arc, Wait};
-use std::test::Fail;
-use std::thread::{Threads, join_mut, sleep};
+use std::thread::{Threads, join, sleep};
 use std::time::{Clock, Duration};
 use wq_live::Answer;
 use wq_values::{ValueOwner, ValueSender};
@@ -56,21 +55,20 @@ fn execute_late<R: Clock + Wait, V: Drop>(rt: &R, owner: &mut ValueOwner<V>, las
 
 /// A flush returns once all that was queued before it has ended: by then the owner has dropped each value.
 #[test]
-fn flush_waits_for_the_values_before_it(rt: HostRuntime) -> Result<(), Fail> {
-    let (mut owner, mut sender) = seats(rt.alloc(), ITEMS).expect(&rt, "seats");
-    let shared = Arc::new(rt.alloc(), 7u32)?;
+fn flush_waits_for_the_values_before_it(rt: HostRuntime) {
+    let (mut owner, mut sender) = seats(&rt, rt.alloc(), ITEMS);
+    let shared = Arc::new(rt.alloc(), 7u32).expect(&rt, "a value");
     for item in 0..ITEMS {
         let (_, back) = queue_once(&mut sender, item, share(&rt, &shared));
         assert!(rt; back.is_none(), "item {item}");
     }
     expect_same(&rt, alive(&shared), 16);
-    let (left, executed) = join_mut(
+    let (left, executed) = join(
         &rt,
-        &mut || flush_and_look(&rt, &mut sender, &shared),
-        &mut || execute_late(&rt, &mut owner, ITEMS),
+        || flush_and_look(&rt, &mut sender, &shared),
+        || execute_late(&rt, &mut owner, ITEMS),
     );
     expect_same(&rt, (left, executed), (0, ITEMS.wrapping_add(1)));
-    Ok(())
 }
 
 /// Each way of queueing but `queue_value` gives this answer, and none waits.
@@ -86,7 +84,7 @@ fn expect_refused<R: Abort + Wait>(rt: &R, sender: &mut ValueSender<u64>, wanted
 /// A flush that is refused does not wait, and neither does another call, on a queue where nobody executes meanwhile.
 #[test]
 fn refused_flush_does_not_wait(rt: HostRuntime) {
-    let (mut owner, mut sender) = seats::<u64>(rt.alloc(), 4).expect(&rt, "seats");
+    let (mut owner, mut sender) = seats::<_, u64>(&rt, rt.alloc(), 4);
     expect_same(&rt, sender.request_stop(1), WAKES);
     expect_same(&rt, flush_once(&rt, &mut sender), QUEUED);
     let queued = queue_once(&mut sender, 0, 70);

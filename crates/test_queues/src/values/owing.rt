@@ -11,7 +11,6 @@ use std::process::Abort;
 use std::sync::atomic::AtomicU64;
 use std::sync::atomic::Ordering::SeqCst;
 use std::sync::{Arc, Wait};
-use std::test::Fail;
 use std::thread::{Threads, join_mut};
 use wq_value_worker::{ValueFollow, ValueWork, ValueWorker};
 use wq_values::ValueSender;
@@ -242,8 +241,8 @@ fn run_until_owing<R: Threads + Wait + Sync, W: ValueWork<Share> + Send>(
 /// A pair whose queueing is contended is owed, and the next call goes on with it and its value, and with those behind it: each pair
 /// is run once, in order, with its own value, and none comes back.
 #[test]
-fn contended_pair_goes_on(rt: HostRuntime) -> Result<(), Fail> {
-    let shared = Arc::new(rt.alloc(), 7u32)?;
+fn contended_pair_goes_on(rt: HostRuntime) {
+    let shared = Arc::new(rt.alloc(), 7u32).expect(&rt, "a value");
     let Disturbed {
         mut worker,
         mut first,
@@ -270,13 +269,12 @@ fn contended_pair_goes_on(rt: HostRuntime) -> Result<(), Fail> {
         totals.executed,
     );
     assert!(rt; totals.contended > 0);
-    Ok(())
 }
 
 /// A worker that goes with an execution owed drops the pairs that it has not queued, and each once.
 #[test]
-fn owed_pairs_are_dropped_with_the_worker(rt: HostRuntime) -> Result<(), Fail> {
-    let shared = Arc::new(rt.alloc(), 7u32)?;
+fn owed_pairs_are_dropped_with_the_worker(rt: HostRuntime) {
+    let shared = Arc::new(rt.alloc(), 7u32).expect(&rt, "a value");
     let Disturbed {
         mut worker,
         mut first,
@@ -289,5 +287,4 @@ fn owed_pairs_are_dropped_with_the_worker(rt: HostRuntime) -> Result<(), Fail> {
     drop(first);
     drop(second);
     expect_same(&rt, alive(&shared), 0);
-    Ok(())
 }

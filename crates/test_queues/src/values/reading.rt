@@ -1,23 +1,26 @@
 //! What the owner of a queue whose items bring values may do next, what it does then, and what a queueing answered.
-ghost use Rattle.std.specs.Prelude.{◌≡◌, ◌≢◌, [], IfSome, IsTrue};
+ghost use Rattle.std.specs.Prelude.{◌≡◌, ◌≢◌, [], IsTrue};
 ghost use Rattle.wq_words.specs.History.{IsShut, IsRunning};
 ghost use Rattle.wq_live.specs.Batch.{batch};
 
 use std::alloc::Global;
+use std::process::Abort;
 use wq_live::Answer;
 use wq_values::{ValueAnswer, ValueOwner, ValueSender, build_values};
 use wq_words::Layout;
 
 /// The owner and the sender of a new queue of so many items and one barrier.
-pub(crate) fn seats<V: Drop>(alloc: Global, items: u32) -> Option<(ValueOwner<V>, ValueSender<V>)>
-    ensures { IfSome result (λ seats. seats.1.known.queue ≡ seats.0.known.queue) }
+pub(crate) fn seats<R: Abort, V: Drop>(
+    rt: &R,
+    alloc: Global,
+    items: u32,
+) -> (ValueOwner<V>, ValueSender<V>)
+    ensures { result.1.known.queue ≡ result.0.known.queue }
 {
-    let layout = Layout::new(items, 1, 1).ok()?;
-    let Ok((owner, mut senders)) = build_values(alloc, layout) else {
-        return None;
-    };
-    let sender = senders.pop()?;
-    Some((owner, sender))
+    let layout = Layout::new(items, 1, 1).expect(rt, "a layout");
+    let (owner, mut senders) = build_values(alloc, layout).expect(rt, "memory for a queue");
+    let sender = senders.pop().expect(rt, "a sender");
+    (owner, sender)
 }
 
 /// The answer, and the value that came back.

@@ -6,7 +6,6 @@ use crate::expect::expect_same;
 use crate::seats::{FIRST, QUEUED, WAKES};
 use std::alloc::Global;
 use std::process::Abort;
-use std::test::Fail;
 use wq_live::Answer;
 use wq_values::{ValueOwner, ValueSender};
 
@@ -40,9 +39,9 @@ fn begins_with<R: Abort>(rt: &R, owner: &mut ValueOwner<String>, number: u32, wo
 
 /// What is pending, and what is queued behind a close, comes back; an item that runs may be queued again.
 #[test]
-fn execution_is_handed_what_its_queueing_brought(rt: HostRuntime) -> Result<(), Fail> {
+fn execution_is_handed_what_its_queueing_brought(rt: HostRuntime) {
     let alloc = rt.alloc();
-    let (mut owner, mut sender) = seats(alloc, 4).expect(&rt, "seats");
+    let (mut owner, mut sender) = seats(&rt, alloc, 4);
     expect_same(
         &rt,
         queue(&rt, alloc, &mut sender, 0, "a"),
@@ -70,7 +69,6 @@ fn execution_is_handed_what_its_queueing_brought(rt: HostRuntime) -> Result<(), 
     begins_with(&rt, &mut owner, 0, "b");
     expect_same(&rt, end(&mut owner), Some(0));
     assert!(rt; owner.done().is_some());
-    Ok(())
 }
 
 /// Chains item 2 with its words. With others it is pending, and these come back.
@@ -117,9 +115,9 @@ const BEHIND: &[(u32, &str)] = &[
 
 /// A batch that waits, what a drain adds behind it, and what is chained: each begins with its own words.
 #[test]
-fn values_keep_their_order_behind_a_batch(rt: HostRuntime) -> Result<(), Fail> {
+fn values_keep_their_order_behind_a_batch(rt: HostRuntime) {
     let alloc = rt.alloc();
-    let (mut owner, mut sender) = seats(alloc, 8).expect(&rt, "seats");
+    let (mut owner, mut sender) = seats(&rt, alloc, 8);
     queue_all(
         &rt,
         alloc,
@@ -146,14 +144,13 @@ fn values_keep_their_order_behind_a_batch(rt: HostRuntime) -> Result<(), Fail> {
     );
     let (item, value) = execute_one(&mut owner).expect(&rt, "item 6");
     expect_same(&rt, (item, value.is_some()), (6, true));
-    Ok(())
 }
 
 /// A barrier and the stop item bring nothing.
 #[test]
-fn barriers_bring_nothing(rt: HostRuntime) -> Result<(), Fail> {
+fn barriers_bring_nothing(rt: HostRuntime) {
     let alloc = rt.alloc();
-    let (mut owner, mut sender) = seats::<String>(alloc, 2).expect(&rt, "seats");
+    let (mut owner, mut sender) = seats::<_, String>(&rt, alloc, 2);
     queue(&rt, alloc, &mut sender, 1, "one");
     if sender.layout().barriers > 0 {
         expect_same(&rt, sender.flush_begin(0, 1), QUEUED);
@@ -167,5 +164,4 @@ fn barriers_bring_nothing(rt: HostRuntime) -> Result<(), Fail> {
     if sender.layout().barriers > 0 {
         assert!(rt; sender.flush_done(0));
     }
-    Ok(())
 }

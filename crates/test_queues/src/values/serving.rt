@@ -4,12 +4,12 @@ ghost use Rattle.std.specs.Prelude.{◌≡◌};
 use super::worker::{Keeping, Team, destroy, four_pairs, new_team, new_worker, queue, take_last};
 use crate::expect::expect_same;
 use crate::seats::FIRST;
+use crate::worker::team::new_parker;
 use crossbeam_utils::sync::{Parker, Unparker};
 use std::alloc::Global;
 use std::hint::spin_loop;
 use std::process::Abort;
 use std::sync::Wait;
-use std::test::Fail;
 use std::thread::{Threads, join_mut};
 use wq_live::{Answer, Spins};
 use wq_value_worker::{ValueFollow, ValueWork, ValueWorker};
@@ -100,8 +100,7 @@ fn serve_beside<R: Abort + Threads + Wait + Sync, W: ValueWork<u64> + Send>(
 )
     ensures { worker.new.worker.queue ≡ worker.old.worker.queue }
 {
-    let mut parker = Parker::new(alloc).expect(rt, "memory for a parker");
-    let unparker = parker.unparker().clone().expect(rt, "one unparker more");
+    let (mut parker, unparker) = new_parker(rt, alloc);
     join_mut(
         rt,
         &mut || serve(rt, worker, &mut parker),
@@ -141,14 +140,13 @@ fn serve_once<R: Abort + Threads + Wait + Sync>(rt: &R, alloc: Global, spins: Sp
 /// A worker that serves runs all that two senders queue in threads, each item with its value, is woken where it has parked, and ends
 /// with the stop item, in each of 20 runs.
 #[test]
-fn served_worker_runs_values_and_ends(rt: HostRuntime) -> Result<(), Fail> {
-    let spins = Spins::measured(&rt)?;
+fn served_worker_runs_values_and_ends(rt: HostRuntime) {
+    let spins = Spins::measured(&rt).expect(&rt, "a clock that answers");
     for run in 0..20u32 {
         let is_measured = run % 2 == 0;
         let chosen = if is_measured { spins } else { Spins::default() };
         serve_once(&rt, rt.alloc(), chosen);
     }
-    Ok(())
 }
 
 /// What the worker's seats have counted by so many executions, of which the first asked for four pairs.

@@ -6,7 +6,7 @@ use crate::patience::Patience;
 use std::alloc::Global;
 use std::process::Abort;
 use std::sync::{Arc, Wait};
-use std::thread::{Threads, join_mut, yield_now};
+use std::thread::{Threads, join, yield_now};
 use std::time::Clock;
 use wq_live::Answer;
 use wq_values::{ValueOwner, ValueSender, build_values};
@@ -147,10 +147,10 @@ fn queue_halves<R: Abort + Threads + Sync>(
     half: u32,
     shared: &Arc<u32>,
 ) -> (u32, u32) {
-    join_mut(
+    join(
         rt,
-        &mut || queue_all(rt, first, 0, half, shared),
-        &mut || queue_all(rt, second, half, half.wrapping_mul(2), shared),
+        || queue_all(rt, first, 0, half, shared),
+        || queue_all(rt, second, half, half.wrapping_mul(2), shared),
     )
 }
 
@@ -165,10 +165,10 @@ fn two_threads_queue_values_in_their_order(rt: HostRuntime) {
         shared,
     } = new_seats(&rt, rt.alloc(), 512);
     let mut executed = Vec::new(rt.alloc());
-    let (queued, ran) = join_mut(
+    let (queued, ran) = join(
         &rt,
-        &mut || queue_halves(&rt, &mut first, &mut second, 256, &shared),
-        &mut || execute_for(&mut owner, 200_000, &mut executed),
+        || queue_halves(&rt, &mut first, &mut second, 256, &shared),
+        || execute_for(&mut owner, 200_000, &mut executed),
     );
     expect_same(&rt, (queued, ran), ((256, 256), true));
     assert!(rt; close(&mut owner).is_some());
@@ -204,10 +204,10 @@ fn queue_halves_and_go<R: Abort + Threads + Sync>(
     half: u32,
     shared: &Arc<u32>,
 ) -> (u32, u32) {
-    join_mut(
+    join(
         rt,
-        &mut || queue_and_go(rt, first, 0, half, shared),
-        &mut || queue_and_go(rt, second, half, half.wrapping_mul(2), shared),
+        || queue_and_go(rt, first, 0, half, shared),
+        || queue_and_go(rt, second, half, half.wrapping_mul(2), shared),
     )
 }
 
@@ -236,10 +236,10 @@ fn senders_go_and_each_value_is_dropped_once(rt: HostRuntime) {
         shared,
     } = new_seats(&rt, rt.alloc(), 512);
     let mut seats = (Some(first), Some(second));
-    let (queued, _) = join_mut(
+    let (queued, _) = join(
         &rt,
-        &mut || queue_halves_and_go(&rt, &mut seats.0, &mut seats.1, 256, &shared),
-        &mut || execute_and_drop(&rt, &mut owner, 100),
+        || queue_halves_and_go(&rt, &mut seats.0, &mut seats.1, 256, &shared),
+        || execute_and_drop(&rt, &mut owner, 100),
     );
     expect_same(&rt, (queued, alive(&shared)), ((256, 256), 412));
     execute_and_drop(&rt, &mut owner, 200);
@@ -312,10 +312,10 @@ fn value_comes_back_where_a_try_was_lost(rt: HostRuntime) {
         mut second,
         shared,
     } = new_seats(&rt, rt.alloc(), ITEMS);
-    let (contended, own) = join_mut(
+    let (contended, own) = join(
         &rt,
-        &mut || contend(&rt, &mut first, &shared),
-        &mut || churn(&rt, &mut owner, &mut second, &shared),
+        || contend(&rt, &mut first, &shared),
+        || churn(&rt, &mut owner, &mut second, &shared),
     );
     expect_same(&rt, (contended, own), (true, true));
     drop(owner);

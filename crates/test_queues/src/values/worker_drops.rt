@@ -5,7 +5,6 @@ use crate::expect::expect_same;
 use std::alloc::Global;
 use std::process::Abort;
 use std::sync::Arc;
-use std::test::Fail;
 use wq_value_worker::ValueFollow;
 use wq_worker::Ran;
 
@@ -30,8 +29,8 @@ fn start<'a, R: Abort>(rt: &'a R, alloc: Global, shared: &Arc<u32>) -> Team<'a, 
 
 /// A worker that goes before it took leaves what was queued to the last seat, and drops what it would have asked for.
 #[test]
-fn unused_worker_is_dropped(rt: HostRuntime) -> Result<(), Fail> {
-    let shared = Arc::new(rt.alloc(), 7u32)?;
+fn unused_worker_is_dropped(rt: HostRuntime) {
+    let shared = Arc::new(rt.alloc(), 7u32).expect(&rt, "a value");
     let Team {
         worker,
         first,
@@ -43,13 +42,12 @@ fn unused_worker_is_dropped(rt: HostRuntime) -> Result<(), Fail> {
     expect_same(&rt, alive(&shared), 3);
     drop(second);
     expect_same(&rt, alive(&shared), 0);
-    Ok(())
 }
 
 /// A worker that goes last drops what its work has, what it took and has not run, and what it queued.
 #[test]
-fn worker_with_a_batch_is_dropped(rt: HostRuntime) -> Result<(), Fail> {
-    let shared = Arc::new(rt.alloc(), 7u32)?;
+fn worker_with_a_batch_is_dropped(rt: HostRuntime) {
+    let shared = Arc::new(rt.alloc(), 7u32).expect(&rt, "a value");
     let Team {
         mut worker,
         first,
@@ -62,13 +60,12 @@ fn worker_with_a_batch_is_dropped(rt: HostRuntime) -> Result<(), Fail> {
     expect_same(&rt, alive(&shared), 6);
     drop(worker);
     expect_same(&rt, alive(&shared), 0);
-    Ok(())
 }
 
 /// A worker that is destroyed leaves the values that it ran, and those that came back, to its work, and none to the book.
 #[test]
-fn destroyed_worker_leaves_its_values_to_its_work(rt: HostRuntime) -> Result<(), Fail> {
-    let shared = Arc::new(rt.alloc(), 7u32)?;
+fn destroyed_worker_leaves_its_values_to_its_work(rt: HostRuntime) {
+    let shared = Arc::new(rt.alloc(), 7u32).expect(&rt, "a value");
     let Team {
         worker,
         first: _first,
@@ -81,5 +78,4 @@ fn destroyed_worker_leaves_its_values_to_its_work(rt: HostRuntime) -> Result<(),
     expect_same(&rt, alive(&shared), 0);
     drop(book);
     expect_same(&rt, alive(&shared), 0);
-    Ok(())
 }

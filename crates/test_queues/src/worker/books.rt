@@ -4,7 +4,6 @@ ghost use Rattle.wq_ledger.specs.Book.{IsLedgerOf};
 use crate::expect::expect_same;
 use crate::seats::{QUEUED, WAKES, queue_item};
 use crate::worker::team::{Fixed, destroy, new_team};
-use std::test::Fail;
 use wq_worker::{Book, Ledger, Totals, Unbalanced};
 
 type Balanced = Result<Totals, Unbalanced>;
@@ -26,8 +25,8 @@ fn balance_some(
 
 /// A sender without a ledger and one with two are named, the one with the lower number first, and else the counts balance.
 #[test]
-fn ledgers_balance(rt: HostRuntime) -> Result<(), Fail> {
-    let mut team = new_team(&rt, rt.alloc(), Fixed::new());
+fn ledgers_balance(rt: HostRuntime) {
+    let mut team = new_team(&rt, rt.alloc(), 4, Fixed::new());
     team.worker.adjust(|work: &mut Fixed| work.next = Some(2));
     expect_same(&rt, queue_item(&rt, &mut team.first, 0), WAKES);
     expect_same(&rt, queue_item(&rt, &mut team.second, 3), QUEUED);
@@ -50,5 +49,4 @@ fn ledgers_balance(rt: HostRuntime) -> Result<(), Fail> {
     expect_same(&rt, missing_first, Err(Unbalanced::Missing(0)));
     expect_same(&rt, twice, Err(Unbalanced::Twice(1)));
     expect_same(&rt, once, Ok(totals));
-    Ok(())
 }

@@ -7,7 +7,6 @@ use crate::worker::team::{destroy, new_queue, take_last};
 use arrayvec::ArrayVec;
 use std::alloc::Global;
 use std::process::Abort;
-use std::test::Fail;
 use trail::Trail;
 use wq_live::Sender;
 use wq_worker::{Follow, Ran, Work, Worker};
@@ -58,18 +57,17 @@ fn new_noting<R: Abort>(rt: &R, alloc: Global) -> (Worker<Noting>, Sender) {
 
 /// The bit is clear before the function runs (`work_pending`).
 #[test]
-fn runs_after_the_bit_is_cleared(rt: HostRuntime) -> Result<(), Fail> {
+fn runs_after_the_bit_is_cleared(rt: HostRuntime) {
     let (mut worker, mut first) = new_noting(&rt, rt.alloc());
     expect_same(&rt, queue_item(&rt, &mut first, 3), WAKES);
     expect_same(&rt, worker.run_one(), Ran::Item(3));
     let (work, _book) = destroy(&rt, worker, 9);
     expect_same(&rt, work.found.as_slice(), [false].as_slice());
-    Ok(())
 }
 
 /// So it is for each item of a take, and not the first alone.
 #[test]
-fn each_of_a_take_runs_after_its_bit_is_cleared(rt: HostRuntime) -> Result<(), Fail> {
+fn each_of_a_take_runs_after_its_bit_is_cleared(rt: HostRuntime) {
     let (mut worker, mut first) = new_noting(&rt, rt.alloc());
     for item in 0..3u32 {
         queue_item(&rt, &mut first, item);
@@ -77,5 +75,4 @@ fn each_of_a_take_runs_after_its_bit_is_cleared(rt: HostRuntime) -> Result<(), F
     expect_same(&rt, worker.run_some(9), 3);
     let (work, _book) = destroy(&rt, worker, 9);
     expect_same(&rt, work.found.as_slice(), [false, false, false].as_slice());
-    Ok(())
 }

@@ -5,11 +5,10 @@ use crate::balance::balance_met;
 use crate::expect::expect_same;
 use crate::patience::Patience;
 use crate::seats::queue_item;
-use crate::worker::team::{destroy, new_queue, serve, take_last};
+use crate::worker::team::{Team, destroy, new_parker, new_team, serve};
 use crossbeam_utils::sync::{Parker, Unparker};
 use std::process::Abort;
 use std::sync::Wait;
-use std::test::Fail;
 use std::thread::{Threads, join_mut, sleep};
 use std::time::{Clock, Duration};
 use trail::Trail;
@@ -163,14 +162,13 @@ fn check_balance<R: Abort>(
 /// An execution is owed where the worker's one try is lost to another sender. A worker that serves goes on at once there, the item
 /// that was to be queued is not lost, and the book balances.
 #[test]
-fn owing_goes_on(rt: HostRuntime) -> Result<(), Fail> {
-    let mut parker = Parker::new(rt.alloc())?;
-    let unparker = parker.unparker().clone()?;
-    let (owner, mut senders) = new_queue(&rt, rt.alloc(), 300, 3);
-    let last = take_last(&rt, &owner, &mut senders);
-    let mut second = take_last(&rt, &owner, &mut senders);
-    let mut first = take_last(&rt, &owner, &mut senders);
-    let mut worker = Worker::new(owner, last, Restless::new(100), 1);
+fn owing_goes_on(rt: HostRuntime) {
+    let (mut parker, unparker) = new_parker(&rt, rt.alloc());
+    let Team {
+        mut worker,
+        mut first,
+        mut second,
+    } = new_team(&rt, rt.alloc(), 300, Restless::new(100));
     queue_item(&rt, &mut first, 0);
     let is_owing = serve_until_owing(
         &rt,
@@ -183,5 +181,4 @@ fn owing_goes_on(rt: HostRuntime) -> Result<(), Fail> {
     assert!(rt; is_owing);
     assert!(rt; ring_goes_on(&mut worker));
     check_balance(&rt, worker, &mut first, &mut second);
-    Ok(())
 }

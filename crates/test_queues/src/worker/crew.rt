@@ -3,7 +3,7 @@ ghost use Rattle.std.specs.Prelude.{◌≡◌, All};
 ghost use Rattle.wq_ledger.specs.Book.{IsLedgerOf};
 
 use crate::expect::expect_same;
-use crate::worker::team::{Fixed, destroy, new_queue, serve, take_last};
+use crate::worker::team::{Fixed, destroy, new_parker, new_queue, serve, take_last};
 use crossbeam_utils::sync::{Parker, Unparker};
 use std::alloc::Global;
 use std::hint::spin_loop;
@@ -196,8 +196,7 @@ pub(crate) fn run_beside<R: Abort + Threads + Wait + Sync>(
         × (crew.new.third.queue ≡ crew.old.third.queue) × (crew.new.fourth.queue ≡ crew.old.fourth.queue) }
     ensures last { crew.new.last.queue ≡ crew.old.last.queue }
 {
-    let mut parker = Parker::new(alloc).expect(rt, "memory for a parker");
-    let unparker = parker.unparker().clone().expect(rt, "one unparker more");
+    let (mut parker, unparker) = new_parker(rt, alloc);
     join_mut(
         rt,
         &mut || run_until_stop(rt, worker, &mut parker, offer.on),

@@ -6,7 +6,7 @@ use crate::worker::team::{Fixed, destroy, new_team};
 /// A destroy that comes to its limit gives the worker back, closed, and a second one ends.
 #[test]
 fn destroy_goes_on(rt: HostRuntime) {
-    let mut team = new_team(&rt, rt.alloc(), Fixed::new());
+    let mut team = new_team(&rt, rt.alloc(), 4, Fixed::new());
     expect_same(&rt, queue_item(&rt, &mut team.first, 0), WAKES);
     expect_same(&rt, queue_item(&rt, &mut team.first, 1), QUEUED);
     expect_same(&rt, queue_item(&rt, &mut team.first, 2), QUEUED);

@@ -23,7 +23,7 @@ const OWN: u32 = 16;
 fn drain_goes_on_and_resumes(rt: HostRuntime) {
     let mut work = Fixed::new();
     work.next = Some(1);
-    let mut team = new_team(&rt, rt.alloc(), work);
+    let mut team = new_team(&rt, rt.alloc(), 4, work);
     expect_same(&rt, queue_item(&rt, &mut team.first, 0), WAKES);
     expect_same(&rt, team.worker.drain(1), Drained::TooLong { left: 1 });
     assert!(rt; team.worker.is_draining());
@@ -42,7 +42,7 @@ fn drain_goes_on_and_resumes(rt: HostRuntime) {
 /// A step of a worker whose queue drains executes what waits. A destroy closes such a queue.
 #[test]
 fn destroy_ends_a_drain(rt: HostRuntime) {
-    let mut team = new_team(&rt, rt.alloc(), Fixed::new());
+    let mut team = new_team(&rt, rt.alloc(), 4, Fixed::new());
     expect_same(&rt, queue_item(&rt, &mut team.first, 0), WAKES);
     expect_same(&rt, queue_item(&rt, &mut team.first, 1), QUEUED);
     expect_same(&rt, team.worker.drain(0), Drained::TooLong { left: 2 });

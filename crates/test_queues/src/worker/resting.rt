@@ -2,15 +2,13 @@
 ghost use Rattle.wq_worker.specs.Resting.{HasNoneLeft};
 
 use crate::expect::expect_same;
-use crate::seats::{WAKES, queue_item};
+use crate::seats::{FIRST, WAKES, queue_item};
 use crate::worker::crew::{Offer, Wakes, new_crew, run_beside};
 use crate::worker::team::{Fixed, Team, destroy, new_queue, new_team, take_last};
 use std::alloc::Global;
 use std::process::Abort;
 use std::sync::Wait;
-use std::test::Fail;
 use std::thread::Threads;
-use wq_live::Answer;
 use wq_worker::{Ran, Worker};
 
 /// A run of a worker with four senders of four items each, which pause before each: how often it rested, how often it was woken, and
@@ -76,12 +74,12 @@ fn rest<R: Abort>(rt: &R, worker: &mut Worker<Fixed>) -> bool
 
 /// What a worker is ready for, and when it rests: only with nothing left, and once until it takes again.
 #[test]
-fn ready_and_rest(rt: HostRuntime) -> Result<(), Fail> {
+fn ready_and_rest(rt: HostRuntime) {
     let Team {
         mut worker,
         mut first,
         second: _,
-    } = new_team(&rt, rt.alloc(), Fixed::new());
+    } = new_team(&rt, rt.alloc(), 4, Fixed::new());
     expect_same(&rt, worker.ready(), None);
     expect_same(&rt, run_out(&rt, &mut worker), 0);
     assert!(rt; rest(&rt, &mut worker));
@@ -89,14 +87,8 @@ fn ready_and_rest(rt: HostRuntime) -> Result<(), Fail> {
     expect_same(&rt, worker.ready(), Some(2));
     expect_same(&rt, worker.ready(), Some(2));
     expect_same(&rt, run_out(&rt, &mut worker), 1);
-    let answer = queue_item(&rt, &mut first, 3);
-    let unrested = Answer::Queued {
-        first: true,
-        wakes: false,
-    };
-    expect_same(&rt, answer, unrested);
+    expect_same(&rt, queue_item(&rt, &mut first, 3), FIRST);
     assert!(rt; !rest(&rt, &mut worker));
     expect_same(&rt, run_out(&rt, &mut worker), 2);
     assert!(rt; rest(&rt, &mut worker));
-    Ok(())
 }

@@ -1,13 +1,12 @@
 //! A worker that serves in a thread, and parks where nothing waits.
 use crate::expect::expect_same;
 use crate::seats::queue_item;
-use crate::worker::team::{Fixed, is_pending, new_team, serve, stop};
-use crossbeam_utils::sync::{Parker, Unparker};
+use crate::worker::team::{Fixed, is_pending, new_parker, new_team, serve, stop};
+use crossbeam_utils::sync::Unparker;
 use std::alloc::Global;
 use std::process::Abort;
 use std::sync::Wait;
-use std::test::Fail;
-use std::thread::{Threads, join_mut, sleep, yield_now};
+use std::thread::{Threads, join, sleep, yield_now};
 use std::time::{Clock, Duration};
 use wq_live::{Answer, Sender};
 
@@ -23,18 +22,16 @@ fn queue_late<R: Abort>(rt: &R, sender: &mut Sender, unparker: &Unparker) -> (An
 
 /// A worker that serves parks where nothing waits, is unparked, and ends with the stop item.
 #[test]
-fn served_worker_is_unparked(rt: HostRuntime) -> Result<(), Fail> {
-    let mut parker = Parker::new(rt.alloc())?;
-    let unparker = parker.unparker().clone()?;
-    let mut team = new_team(&rt, rt.alloc(), Fixed::new());
-    let (_, answers) = join_mut(
+fn served_worker_is_unparked(rt: HostRuntime) {
+    let (mut parker, unparker) = new_parker(&rt, rt.alloc());
+    let mut team = new_team(&rt, rt.alloc(), 4, Fixed::new());
+    let (_, answers) = join(
         &rt,
-        &mut || serve(&rt, &mut team.worker, &mut parker),
-        &mut || queue_late(&rt, &mut team.first, &unparker),
+        || serve(&rt, &mut team.worker, &mut parker),
+        || queue_late(&rt, &mut team.first, &unparker),
     );
     assert!(rt; matches!(answers, (Answer::Queued { .. }, Answer::Queued { .. })));
     expect_same(&rt, team.worker.counts().executed, 2);
-    Ok(())
 }
 
 /// Has an item run, and then queues the stop item and unparks nobody. Answers what a second stop request found a while later:
@@ -56,28 +53,26 @@ fn stop_unseen<R: Abort + Clock>(rt: &R, sender: &mut Sender, unparker: &Unparke
 }
 
 /// Whether a worker that serves does not see a stop item before it is unparked.
-fn parks<R: Abort + Clock + Threads + Wait + Sync>(rt: &R, alloc: Global) -> Result<bool, Fail> {
-    let mut parker = Parker::new(alloc)?;
-    let unparker = parker.unparker().clone()?;
-    let mut team = new_team(rt, alloc, Fixed::new());
-    let (_, answer) = join_mut(
+fn parks<R: Abort + Clock + Threads + Wait + Sync>(rt: &R, alloc: Global) -> bool {
+    let (mut parker, unparker) = new_parker(rt, alloc);
+    let mut team = new_team(rt, alloc, 4, Fixed::new());
+    let (_, answer) = join(
         rt,
-        &mut || serve(rt, &mut team.worker, &mut parker),
-        &mut || stop_unseen(rt, &mut team.first, &unparker),
+        || serve(rt, &mut team.worker, &mut parker),
+        || stop_unseen(rt, &mut team.first, &unparker),
     );
-    Ok(answer == Answer::Pending)
+    answer == Answer::Pending
 }
 
 /// A worker that serves is parked where nothing waits: it does not see the stop item until it is unparked. Where the machine is
 /// busy the worker may come to its look late, so there are five turns.
 #[test]
-fn served_worker_parks(rt: HostRuntime) -> Result<(), Fail> {
+fn served_worker_parks(rt: HostRuntime) {
+    let mut has_parked = false;
     for _ in 0..5u32 {
-        if parks(&rt, rt.alloc())? {
-            return Ok(());
-        }
+        has_parked = has_parked || parks(&rt, rt.alloc());
     }
-    Err(Fail::new("it went on where nothing waited"))
+    assert!(rt; has_parked, "it went on where nothing waited");
 }
 
 /// Looks until the item is no longer pending, for ten seconds at least.
@@ -113,19 +108,17 @@ fn look_behind_barriers<R: Abort + Clock>(
 /// A worker that serves goes on behind a barrier: an item that waits there needs no wake-up of its own, whether the worker finds
 /// both as it begins to serve, or is unparked for both.
 #[test]
-fn served_worker_goes_on_behind_a_barrier(rt: HostRuntime) -> Result<(), Fail> {
-    let mut parker = Parker::new(rt.alloc())?;
-    let unparker = parker.unparker().clone()?;
-    let mut team = new_team(&rt, rt.alloc(), Fixed::new());
+fn served_worker_goes_on_behind_a_barrier(rt: HostRuntime) {
+    let (mut parker, unparker) = new_parker(&rt, rt.alloc());
+    let mut team = new_team(&rt, rt.alloc(), 4, Fixed::new());
     assert!(rt; 0 < team.second.layout().barriers);
     team.second.flush_begin(0, 1);
     queue_item(&rt, &mut team.second, 1);
-    let (_, begun) = join_mut(
+    let (_, begun) = join(
         &rt,
-        &mut || serve(&rt, &mut team.worker, &mut parker),
-        &mut || look_behind_barriers(&rt, &mut team.first, &unparker),
+        || serve(&rt, &mut team.worker, &mut parker),
+        || look_behind_barriers(&rt, &mut team.first, &unparker),
     );
     expect_same(&rt, begun, (true, true));
     expect_same(&rt, team.worker.counts().executed, 5);
-    Ok(())
 }

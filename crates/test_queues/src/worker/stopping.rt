@@ -3,14 +3,13 @@ ghost use Rattle.std.specs.Prelude.{◌≡◌, []};
 
 use crate::expect::expect_same;
 use crate::latch::Latch;
-use crate::seats::{QUEUED, WAKES, queue_item};
-use crate::worker::team::{destroy, new_queue, take_last};
+use crate::seats::{FIRST, QUEUED, WAKES, queue_item};
+use crate::worker::team::{Team, destroy, new_team};
 use std::process::Abort;
-use std::test::Fail;
-use std::thread::join_mut;
+use std::thread::join;
 use trail::Trail;
 use wq_live::{Answer, Sender};
-use wq_worker::{Follow, Work, Worker};
+use wq_worker::{Follow, Work};
 
 /// A work that stops at a latch where it runs item 0.
 #[derive(Drop)]
@@ -49,11 +48,7 @@ impl<'a> Work for Stopping<'a> {
 /// Once the run has stopped, both senders queue: what runs, another item, a barrier and the stop item.
 fn queue_beside<R: Abort>(rt: &R, first: &mut Sender, second: &mut Sender, latch: &Latch) -> bool {
     let has_stopped = latch.meet();
-    let behind = Answer::Queued {
-        first: true,
-        wakes: false,
-    };
-    expect_same(rt, queue_item(rt, first, 0), behind);
+    expect_same(rt, queue_item(rt, first, 0), FIRST);
     expect_same(rt, queue_item(rt, second, 0), Answer::Pending);
     expect_same(rt, queue_item(rt, second, 1), QUEUED);
     assert!(rt; 0 < second.layout().barriers);
@@ -67,22 +62,21 @@ fn queue_beside<R: Abort>(rt: &R, first: &mut Sender, second: &mut Sender, latch
 
 /// A run stops, and both senders come to their ends. Then the worker goes on, and executes all that they queued.
 #[test]
-fn senders_end_while_a_run_stops(rt: HostRuntime) -> Result<(), Fail> {
+fn senders_end_while_a_run_stops(rt: HostRuntime) {
     let latch = Latch::new();
-    let (owner, mut senders) = new_queue(&rt, rt.alloc(), 4, 3);
-    let last = take_last(&rt, &owner, &mut senders);
-    let mut second = take_last(&rt, &owner, &mut senders);
-    let mut first = take_last(&rt, &owner, &mut senders);
-    let mut worker = Worker::new(owner, last, Stopping::new(&latch), 1);
+    let Team {
+        mut worker,
+        mut first,
+        mut second,
+    } = new_team(&rt, rt.alloc(), 4, Stopping::new(&latch));
     expect_same(&rt, queue_item(&rt, &mut first, 0), WAKES);
-    let (has_stopped, executed) = join_mut(
+    let (has_stopped, executed) = join(
         &rt,
-        &mut || queue_beside(&rt, &mut first, &mut second, &latch),
-        &mut || worker.run_some(9),
+        || queue_beside(&rt, &mut first, &mut second, &latch),
+        || worker.run_some(9),
     );
     assert!(rt; has_stopped);
     expect_same(&rt, executed, 5);
     let (work, _book) = destroy(&rt, worker, 0);
     assert!(rt; work.has_waited);
-    Ok(())
 }

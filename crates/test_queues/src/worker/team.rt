@@ -73,19 +73,19 @@ pub(crate) fn take_last<R: Abort>(rt: &R, owner: &Owner, senders: &mut Vec<Sende
     senders.pop().expect(rt, "a sender")
 }
 
-/// A worker with the last of three senders of a queue of four items, and the two others.
+/// A worker with the last of three senders of a queue, and the two others.
 #[derive(Drop)]
-pub(crate) struct Team {
-    pub(crate) worker: Worker<Fixed>,
+pub(crate) struct Team<W: Work> {
+    pub(crate) worker: Worker<W>,
     pub(crate) first: Sender,
     pub(crate) second: Sender,
 }
 
-pub(crate) fn new_team<R: Abort>(rt: &R, alloc: Global, work: Fixed) -> Team
-    requires { work.ran.items ≡ [] }
+pub(crate) fn new_team<R: Abort, W: Work>(rt: &R, alloc: Global, items: u32, work: W) -> Team<W>
+    requires { W.log work ≡ [] }
     ensures { (result.first.queue ≡ result.worker.queue) × (result.second.queue ≡ result.worker.queue) }
 {
-    let (owner, mut senders) = new_queue(rt, alloc, 4, 3);
+    let (owner, mut senders) = new_queue(rt, alloc, items, 3);
     let last = take_last(rt, &owner, &mut senders);
     let second = take_last(rt, &owner, &mut senders);
     let first = take_last(rt, &owner, &mut senders);
@@ -114,6 +114,13 @@ pub(crate) fn serve<R: Abort + Wait, W: Work>(rt: &R, worker: &mut Worker<W>, pa
 {
     assert!(rt; !worker.is_closed() && !worker.is_draining());
     worker.serve(rt, parker);
+}
+
+/// A parker for a worker, and what unparks it.
+pub(crate) fn new_parker<R: Abort>(rt: &R, alloc: Global) -> (Parker, Unparker) {
+    let parker = Parker::new(alloc).expect(rt, "memory for a parker");
+    let unparker = parker.unparker().clone().expect(rt, "one unparker more");
+    (parker, unparker)
 }
 
 pub(crate) fn stop(sender: &mut Sender, unparker: &Unparker) -> Answer

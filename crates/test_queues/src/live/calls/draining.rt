@@ -1,8 +1,8 @@
 //! The owner's calls in a drain, and after it.
 use super::super::reading::{begin, chain, close, drain, end, execute_one, resume, take};
-use super::{queue, seats};
+use super::queue;
 use crate::expect::expect_same;
-use crate::seats::{FIRST, QUEUED, WAKES, queue_once};
+use crate::seats::{FIRST, QUEUED, WAKES, queue_once, seats};
 use std::process::Abort;
 use wq_live::{Answer, Done, Owner};
 
@@ -28,7 +28,7 @@ fn chain_within_the_drain<R: Abort>(rt: &R, owner: &mut Owner) {
 
 #[test]
 fn drain_ends_once_all_has_ended(rt: HostRuntime) {
-    let (mut owner, mut first, mut second) = seats(rt.alloc()).expect(&rt, "seats");
+    let (mut owner, mut first, mut second) = seats(&rt, rt.alloc(), 4, 2);
     expect_same(&rt, queue_once(&mut first, 0), Some(WAKES));
     expect_same(&rt, resume(&mut owner), false);
     expect_same(&rt, drain(&mut owner), Some(1));
@@ -45,7 +45,7 @@ fn drain_ends_once_all_has_ended(rt: HostRuntime) {
 
 #[test]
 fn empty_drain_ends_at_once(rt: HostRuntime) {
-    let (mut owner, mut first, _second) = seats(rt.alloc()).expect(&rt, "seats");
+    let (mut owner, mut first, _second) = seats(&rt, rt.alloc(), 4, 2);
     expect_same(&rt, drain(&mut owner), Some(0));
     expect_same(&rt, phase(&owner), (true, true));
     expect_same(&rt, resume(&mut owner), true);
@@ -55,7 +55,7 @@ fn empty_drain_ends_at_once(rt: HostRuntime) {
 
 #[test]
 fn close_ends_a_drain(rt: HostRuntime) {
-    let (mut owner, mut first, mut second) = seats(rt.alloc()).expect(&rt, "seats");
+    let (mut owner, mut first, mut second) = seats(&rt, rt.alloc(), 4, 2);
     expect_same(&rt, queue_once(&mut first, 0), Some(WAKES));
     expect_same(&rt, drain(&mut owner), Some(1));
     expect_same(&rt, close(&mut owner), Some(0));

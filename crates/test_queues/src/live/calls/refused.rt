@@ -1,8 +1,8 @@
 //! What each way of queueing answers of a number that is pending, and on a queue that is closed or drains.
 use super::super::reading::{begin, close, drain, end, execute_one, resume};
-use super::{flush_once, hold_then, post_or_give_back, queue, seats};
+use super::{flush_once, hold_then, post_or_give_back, queue};
 use crate::expect::expect_same;
-use crate::seats::{FIRST, QUEUED, WAKES, queue_once};
+use crate::seats::{FIRST, QUEUED, WAKES, queue_once, seats};
 use std::process::Abort;
 use std::sync::Wait;
 use wq_live::{Answer, Posted, Sender, SenderCounts};
@@ -38,7 +38,7 @@ fn check_closed<R: Abort + Wait>(rt: &R, sender: &mut Sender) {
 
 #[test]
 fn pending_and_closed(rt: HostRuntime) {
-    let (mut owner, mut first, mut second) = seats(rt.alloc()).expect(&rt, "seats");
+    let (mut owner, mut first, mut second) = seats(&rt, rt.alloc(), 4, 2);
     expect_same(&rt, first.request_stop(1), WAKES);
     expect_same(&rt, queue_once(&mut first, 0), Some(QUEUED));
     expect_same(&rt, flush_once(&mut first, 0), Some(QUEUED));
@@ -60,7 +60,7 @@ fn check_draining<R: Abort + Wait>(rt: &R, sender: &mut Sender) {
 
 #[test]
 fn draining_until_the_resume(rt: HostRuntime) {
-    let (mut owner, mut first, mut second) = seats(rt.alloc()).expect(&rt, "seats");
+    let (mut owner, mut first, mut second) = seats(&rt, rt.alloc(), 4, 2);
     expect_same(&rt, queue_once(&mut first, 0), Some(WAKES));
     expect_same(&rt, drain(&mut owner), Some(1));
     check_draining(&rt, &mut second);

@@ -1,14 +1,14 @@
 //! A seat that stops within a drain: a sender that holds an item, an owner that is gone, and a thread that waits until the drain
 //! of the others has come to its end.
+use super::super::calls::post_or_give_back;
 use super::super::reading::{begin, chain, close, drain, end, execute_one, resume};
-use super::{execute_all, hold, queue_all, queue_in_steps, queue_last};
+use super::{execute_all, hold, queue_beside, queue_in_steps, queue_last};
 use crate::expect::expect_same;
 use crate::latch::Latch;
 use crate::seats::{FIRST, QUEUED, WAKES, queue_once, seats};
 use std::process::Abort;
 use std::sync::Wait;
-use std::test::Fail;
-use std::thread::{Threads, join_mut};
+use std::thread::{Threads, join};
 use wq_live::{Answer, Done, Owner, Posted, Sender};
 
 const DRAINING: Option<Answer> = Some(Answer::Draining);
@@ -16,8 +16,8 @@ const DRAINING: Option<Answer> = Some(Answer::Draining);
 /// A sender that holds an item when the drain begins, and is gone within it, stands in the way of no resume. Its item stays
 /// pending.
 #[test]
-fn sender_stops_with_an_item(rt: HostRuntime) -> Result<(), Fail> {
-    let (mut owner, mut first, mut second) = seats(rt.alloc(), 4, 1).expect(&rt, "seats");
+fn sender_stops_with_an_item(rt: HostRuntime) {
+    let (mut owner, mut first, mut second) = seats(&rt, rt.alloc(), 4, 1);
     assert!(rt; hold(&mut first, 2));
     expect_same(&rt, queue_once(&mut second, 0), Some(WAKES));
     expect_same(&rt, drain(&mut owner), Some(1));
@@ -32,19 +32,6 @@ fn sender_stops_with_an_item(rt: HostRuntime) -> Result<(), Fail> {
     expect_same(&rt, execute_one(&mut owner), Some(1));
     expect_same(&rt, close(&mut owner), Some(0));
     expect_same(&rt, owner.done(), Some(Done { ended: 2 }));
-    Ok(())
-}
-
-/// Posts an item that this sender holds, and gives it back where the queue drains.
-fn post_held(sender: &mut Sender, item: u32) -> Option<Posted> {
-    if item >= sender.layout().items || !sender.hold(item) {
-        return None;
-    }
-    let posted = sender.post(item, 1);
-    if let Posted::Draining = posted {
-        sender.give_back(item);
-    }
-    Some(posted)
 }
 
 /// Queues an item, and then a barrier, in calls that may wait.
@@ -62,8 +49,8 @@ fn queue_and_flush<R: Wait>(rt: &R, sender: &mut Sender, item: u32) -> [Option<A
 /// An owner that is gone within a drain leaves the queue draining for ever: each queueing is answered so, also those that may
 /// wait, and what it had taken stays pending.
 #[test]
-fn owner_stops_with_a_batch(rt: HostRuntime) -> Result<(), Fail> {
-    let (mut owner, mut first, mut second) = seats(rt.alloc(), 4, 1).expect(&rt, "seats");
+fn owner_stops_with_a_batch(rt: HostRuntime) {
+    let (mut owner, mut first, mut second) = seats(&rt, rt.alloc(), 4, 1);
     expect_same(&rt, queue_once(&mut first, 0), Some(WAKES));
     expect_same(&rt, queue_once(&mut first, 1), Some(QUEUED));
     expect_same(&rt, drain(&mut owner), Some(2));
@@ -77,9 +64,12 @@ fn owner_stops_with_a_batch(rt: HostRuntime) -> Result<(), Fail> {
             queue_and_flush(&rt, &mut second, 2),
             [DRAINING, DRAINING],
         );
-        expect_same(&rt, post_held(&mut first, 3), Some(Posted::Draining));
+        expect_same(
+            &rt,
+            post_or_give_back(&mut first, 3),
+            Some(Posted::Draining),
+        );
     }
-    Ok(())
 }
 
 /// What the others come to while a sender is stopped.
@@ -127,10 +117,10 @@ fn drain_beside<R: Abort + Threads + Sync>(
     let before = end_drain(rt, owner);
     let after = queue_once(sender, 0);
     let ended = Latch::new();
-    let (queued, executed) = join_mut(
+    let (queued, executed) = join(
         rt,
-        &mut || queue_last(sender, 8, 72, &ended),
-        &mut || execute_all(owner, &ended),
+        || queue_last(sender, 8, 72, &ended),
+        || execute_all(owner, &ended),
     );
     let others = Others {
         drained,
@@ -148,7 +138,7 @@ fn drain_beside<R: Abort + Threads + Sync>(
 /// A sender stops at each place: before its hold, with an item held, with a push that nobody was woken for, and between two
 /// queueings. A whole drain of the others comes to its end before it goes on, and it finds the queue in a second drain.
 #[test]
-fn others_drain_while_a_sender_stops(rt: HostRuntime) -> Result<(), Fail> {
+fn others_drain_while_a_sender_stops(rt: HostRuntime) {
     let draining = Answer::Draining;
     let rows = [
         (0, draining, FIRST, [draining, draining, draining]),
@@ -157,12 +147,12 @@ fn others_drain_while_a_sender_stops(rt: HostRuntime) -> Result<(), Fail> {
         (2, Answer::Pending, FIRST, [WAKES, QUEUED, draining]),
     ];
     for (place, (drained, within, after, answers)) in (0..4u32).zip(rows) {
-        let (mut owner, mut stopped, mut other) = seats(rt.alloc(), 72, 1).expect(&rt, "seats");
+        let (mut owner, mut stopped, mut other) = seats(&rt, rt.alloc(), 72, 1);
         let latch = Latch::new();
-        let (others, said) = join_mut(
+        let (others, said) = join(
             &rt,
-            &mut || drain_beside(&rt, &mut owner, &mut other, &latch),
-            &mut || queue_in_steps(&mut stopped, place, &latch),
+            || drain_beside(&rt, &mut owner, &mut other, &latch),
+            || queue_in_steps(&mut stopped, place, &latch),
         );
         let own = if after == FIRST { 65u32 } else { 64 };
         let want = Others {
@@ -177,7 +167,6 @@ fn others_drain_while_a_sender_stops(rt: HostRuntime) -> Result<(), Fail> {
         expect_same(&rt, (place, others), (place, Some(want)));
         expect_same(&rt, (place, said), (place, Some(answers)));
     }
-    Ok(())
 }
 
 /// Drains what was queued and begins it, stops, and then chains an item, executes the rest and resumes. How many numbers those
@@ -193,39 +182,18 @@ fn drain_and_stop<R: Abort>(rt: &R, owner: &mut Owner, latch: &Latch) -> Option<
     Some(end_drain(rt, owner))
 }
 
-/// Once the owner has stopped, both senders queue what runs, what it has drained, and their own items.
-fn queue_beside<R: Threads + Sync>(
-    rt: &R,
-    first: &mut Sender,
-    second: &mut Sender,
-    latch: &Latch,
-) -> Option<(Answer, Answer, u32, u32)> {
-    if !latch.meet() {
-        return None;
-    }
-    let running = queue_once(first, 0)?;
-    let taken = queue_once(second, 1)?;
-    let (one, other) = join_mut(
-        rt,
-        &mut || queue_all(first, 8, 40),
-        &mut || queue_all(second, 40, 72),
-    );
-    latch.open();
-    Some((running, taken, one, other))
-}
-
 /// The owner stops within a drain, while an item runs and another waits. Both senders come to their ends before it goes on, with
 /// nothing queued. It ends the drain, and what they queue then is queued.
 #[test]
-fn senders_end_while_the_owner_stops(rt: HostRuntime) -> Result<(), Fail> {
-    let (mut owner, mut first, mut second) = seats(rt.alloc(), 72, 1).expect(&rt, "seats");
+fn senders_end_while_the_owner_stops(rt: HostRuntime) {
+    let (mut owner, mut first, mut second) = seats(&rt, rt.alloc(), 72, 1);
     expect_same(&rt, queue_once(&mut first, 0), Some(WAKES));
     expect_same(&rt, queue_once(&mut second, 1), Some(QUEUED));
     let latch = Latch::new();
-    let (answers, executed) = join_mut(
+    let (answers, executed) = join(
         &rt,
-        &mut || queue_beside(&rt, &mut first, &mut second, &latch),
-        &mut || drain_and_stop(&rt, &mut owner, &latch),
+        || queue_beside(&rt, &mut first, &mut second, &latch),
+        || drain_and_stop(&rt, &mut owner, &latch),
     );
     expect_same(
         &rt,
@@ -237,5 +205,4 @@ fn senders_end_while_the_owner_stops(rt: HostRuntime) -> Result<(), Fail> {
     expect_same(&rt, close(&mut owner), Some(1));
     expect_same(&rt, execute_one(&mut owner), Some(8));
     expect_same(&rt, owner.done(), Some(Done { ended: 4 }));
-    Ok(())
 }
