@@ -67,8 +67,7 @@ fn drained<R: Abort>(rt: &R, alloc: Global) -> (Served<Logging>, Sender) {
 #[test]
 fn drained_queue_is_served(rt: HostRuntime) {
     let (queue, mut sender) = drained(&rt, rt.alloc());
-    let mut queues = Vec::new(rt.alloc());
-    queues.push(queue).expect(&rt, "memory");
+    let queues = Vec::from_array(rt.alloc(), [queue]).expect(&rt, "memory");
     let (pool, mut caller) = new_pool(&rt, rt.alloc(), queues);
     expect_same(&rt, queue_item(&rt, &mut sender, 2), FIRST);
     expect_same(&rt, queue_item(&rt, &mut sender, 0), QUEUED);

@@ -45,11 +45,9 @@ fn two_queues<'a, R: Abort>(
     alloc: Global,
     shared: &Arc<u32>,
 ) -> (Vec<Shared<'a, R>>, ValueSender<Arc<u32>>) {
-    let mut queues = Vec::new(alloc);
     let (one, _sender) = three_shares(rt, alloc, shared);
     let (other, sender) = three_shares(rt, alloc, shared);
-    queues.push(one).expect(rt, "memory");
-    queues.push(other).expect(rt, "memory");
+    let queues = Vec::from_array(alloc, [one, other]).expect(rt, "memory");
     expect_same(rt, alive(shared), 6);
     (queues, sender)
 }
@@ -120,8 +118,8 @@ fn dropped_turn_drops_its_values(rt: HostRuntime) -> Result<(), Fail> {
     drop_turn(&rt, &pool, &mut caller, &shared);
     drop(sender);
     expect_same(&rt, alive(&shared), 3);
-    let (pool, queue) = finish_out(&rt, pool, 3);
-    expect_same(&rt, (queue, alive(&shared)), (1, 3));
+    let pool = finish_out(&rt, pool, 3, 1);
+    expect_same(&rt, alive(&shared), 3);
     drop(pool);
     expect_same(&rt, alive(&shared), 0);
     Ok(())

@@ -3,7 +3,9 @@ ghost use Rattle.std.specs.Prelude.{All};
 ghost use Rattle.wq_ready.specs.Known.{IsCallerOf};
 
 use crate::expect::expect_same;
-use crate::pool::team::{Counting, Guest, Logging, filled, queue_item, take_guests, work};
+use crate::pool::team::{
+    Counting, Guest, Logging, filled, finish_all, queue_item, take_guests, work,
+};
 use std::alloc::Global;
 use std::process::Abort;
 use std::sync::atomic::AtomicU64;
@@ -126,8 +128,7 @@ fn handed_on_between_threads(rt: HostRuntime) {
     let (queues, board) = open_board(&rt, rt.alloc());
     let (pool, callers) = Pool::new(rt.alloc(), queues, THREADS).expect(&rt, "a pool");
     serve_board(&rt, rt.alloc(), &pool, callers, &board);
-    let finished = pool.finish(0).expect(&rt, "all finished");
-    expect_same(&rt, finished.len(), 3);
+    finish_all(&rt, pool, 0, 3);
     assert!(rt; board.has_run_all());
     expect_same(&rt, board.gate.count(), board.queued.load(SeqCst));
 }

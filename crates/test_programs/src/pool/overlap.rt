@@ -2,7 +2,7 @@
 ghost use Rattle.wq_ready.specs.Known.{IsCallerOf};
 
 use crate::expect::expect_same;
-use crate::pool::team::{Guest, GuestOf, Logging, new_pool_for, take_last, to_stop};
+use crate::pool::team::{Guest, GuestOf, Logging, finish_all, new_pool_for, take_last, to_stop};
 use crate::pool::values::to_stop_with_values;
 use std::alloc::Global;
 use std::process::Abort;
@@ -207,6 +207,5 @@ fn pool_late_run_overlaps(rt: HostRuntime) {
     let gate = Waiting::new();
     run_late(&rt, &pool, first, late, &gate);
     expect_same(&rt, gate.came.load(SeqCst), 1);
-    let finished = pool.finish(0).expect(&rt, "all finished");
-    expect_same(&rt, finished.len(), 2);
+    finish_all(&rt, pool, 0, 2);
 }

@@ -2,7 +2,7 @@
 ghost use Rattle.std.specs.Prelude.{◌≡◌};
 
 use crate::expect::expect_same;
-use crate::pool::team::{Guest, Logging, new_pool, new_queue, queue_item};
+use crate::pool::team::{Guest, Logging, finish_all, new_pool, new_queue, queue_item};
 use std::alloc::Global;
 use std::cell::Cell;
 use std::process::Abort;
@@ -64,10 +64,8 @@ struct Disturbed {
 fn new_disturbed<R: Abort>(rt: &R, alloc: Global) -> Disturbed {
     let layout = Layout::new(300, 1, 3).expect(rt, "a layout");
     let (served, mut senders) = new_queue(rt, alloc, layout, Logging::asking(100));
-    let mut queues = Vec::new(alloc);
-    queues.push(served).expect(rt, "memory");
     Disturbed {
-        queues,
+        queues: Vec::from_array(alloc, [served]).expect(rt, "memory"),
         first: senders.pop().expect(rt, "a sender"),
         second: senders.pop().expect(rt, "a second sender"),
     }
@@ -202,6 +200,5 @@ fn owing_is_given_back(rt: HostRuntime) {
     let (pool, caller) = new_pool(&rt, rt.alloc(), queues);
     let guest = Guest::new(&pool, caller);
     assert!(rt; owes_at_last(&rt, guest, &mut first, &mut second));
-    let finished = pool.finish(1000).expect(&rt, "all finished");
-    expect_same(&rt, finished.len(), 1);
+    finish_all(&rt, pool, 1000, 1);
 }

@@ -5,7 +5,8 @@ ghost use Rattle.wq_ready.specs.Known.{IsCallerOf};
 use crate::expect::expect_same;
 use crate::pool::serving::{Two, new_two};
 use crate::pool::team::{
-    Guest, Logging, empty, finish_unfinished, new_pool_for, queue_item, serve_queue, work,
+    Guest, Logging, empty, finish_all, finish_unfinished, new_pool_for, queue_item, serve_queue,
+    work,
 };
 use std::alloc::Global;
 use std::process::Abort;
@@ -115,8 +116,7 @@ fn restless_queue_gives_way_where_no_place_is_free(rt: HostRuntime) {
     one.request_stop(1);
     let (pool, caller, workers) = new_pool_for(&rt, rt.alloc(), queues, 1);
     run_beside(&rt, &pool, workers, caller, two);
-    let (_pool, queue, left) = finish_unfinished(&rt, pool, 0);
-    expect_same(&rt, (queue, left), (0, 1));
+    finish_unfinished(&rt, pool, 0, (0, 1));
 }
 
 /// Three queues with their stop items queued, the last with many items behind it, and a sender of each of the others.
@@ -208,6 +208,5 @@ fn run_announces_what_it_leaves_where_no_place_is_free(rt: HostRuntime) {
     serve_queue(&rt, &pool, &mut caller, 1);
     let served = run_last(&rt, &pool, workers, caller, one, two);
     expect_same(&rt, served, 3);
-    let finished = pool.finish(0).expect(&rt, "all finished");
-    expect_same(&rt, finished.len(), 3);
+    finish_all(&rt, pool, 0, 3);
 }

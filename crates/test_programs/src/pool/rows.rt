@@ -3,7 +3,9 @@ ghost use Rattle.std.specs.Prelude.{◌≡◌};
 ghost use Rattle.wq_ready.specs.Known.{IsCallerOf};
 
 use crate::expect::expect_same;
-use crate::pool::team::{all_filled, finish_out, finish_unfinished, new_pool, two_filled, work};
+use crate::pool::team::{
+    all_filled, finish_all, finish_out, finish_unfinished, new_pool, two_filled, work,
+};
 use crate::pool::values::{Ordered, all_with_values, two_with_values};
 use std::alloc::Global;
 use std::process::Abort;
@@ -12,41 +14,57 @@ use wq_live::Answer;
 use wq_pool::{AnnounceError, Caller, NoGate, PoolError, PoolOf, ServedOf, TurnOf};
 use wq_worker::Station;
 
+/// A worked row of two queues, of either kind.
+trait Row {
+    fn check<R: Abort + Wait, K: Station + Drop>(rt: &R, alloc: Global, queues: Vec<ServedOf<K>>)
+    where
+        K::Work: Drop + Ordered,
+        K::Book: Drop;
+}
+
+/// The row over plain queues and over queues whose items bring values, with so many items queued in each.
+fn check_both<T: Row, R: Abort + Wait>(rt: &R, alloc: Global, first: u32, second: u32) {
+    T::check(rt, alloc, two_filled(rt, alloc, first, second));
+    T::check(rt, alloc, two_with_values(rt, alloc, first, second));
+}
+
 /// As many announcements wait as there are queues, whichever they are of.
-fn announce_until_full<R: Abort + Wait, K: Station + Drop>(
-    rt: &R,
-    alloc: Global,
-    queues: Vec<ServedOf<K>>,
-) {
-    let (pool, mut caller) = new_pool(rt, alloc, queues);
-    expect_same(rt, pool.announce(rt, &mut caller, 0), Ok(()));
-    expect_same(rt, pool.announce(rt, &mut caller, 0), Ok(()));
-    expect_same(
-        rt,
-        pool.announce(rt, &mut caller, 1),
-        Err(AnnounceError::Full),
-    );
-    expect_same(
-        rt,
-        pool.announce(rt, &mut caller, 2),
-        Err(AnnounceError::NoQueue),
-    );
-    let wakes = Answer::Queued {
-        first: true,
-        wakes: true,
-    };
-    expect_same(
-        rt,
-        pool.wake(rt, &mut caller, 2, wakes),
-        Err(AnnounceError::NoQueue),
-    );
+struct AnnouncedUntilFull;
+
+impl Row for AnnouncedUntilFull {
+    fn check<R: Abort + Wait, K: Station + Drop>(rt: &R, alloc: Global, queues: Vec<ServedOf<K>>)
+    where
+        K::Work: Drop + Ordered,
+        K::Book: Drop,
+    {
+        let (pool, mut caller) = new_pool(rt, alloc, queues);
+        expect_same(rt, pool.announce(rt, &mut caller, 0), Ok(()));
+        expect_same(rt, pool.announce(rt, &mut caller, 0), Ok(()));
+        expect_same(
+            rt,
+            pool.announce(rt, &mut caller, 1),
+            Err(AnnounceError::Full),
+        );
+        expect_same(
+            rt,
+            pool.announce(rt, &mut caller, 2),
+            Err(AnnounceError::NoQueue),
+        );
+        let wakes = Answer::Queued {
+            first: true,
+            wakes: true,
+        };
+        expect_same(
+            rt,
+            pool.wake(rt, &mut caller, 2, wakes),
+            Err(AnnounceError::NoQueue),
+        );
+    }
 }
 
 #[test]
 fn announced_until_full(rt: HostRuntime) {
-    let alloc = rt.alloc();
-    announce_until_full(&rt, alloc, two_filled(&rt, alloc, 0, 0));
-    announce_until_full(&rt, alloc, two_with_values(&rt, alloc, 0, 0));
+    check_both::<AnnouncedUntilFull, _>(&rt, rt.alloc(), 0, 0);
 }
 
 /// Works at a queue to its end, and puts it back.
@@ -78,105 +96,97 @@ where
 }
 
 /// Two queues are in one hand, in the order in which they were announced. They are out until they are put back.
-fn take_both_in_hand<R: Abort + Wait, K: Station + Drop>(
-    rt: &R,
-    alloc: Global,
-    queues: Vec<ServedOf<K>>,
-)
-where
-    K::Work: Drop + Ordered,
-    K::Book: Drop,
-{
-    let (pool, mut caller) = new_pool(rt, alloc, queues);
-    expect_same(rt, pool.announce(rt, &mut caller, 1), Ok(()));
-    expect_same(rt, pool.announce(rt, &mut caller, 0), Ok(()));
-    let one = pool.pick(rt, &mut caller).expect(rt, "a turn");
-    let other = pool.pick(rt, &mut caller).expect(rt, "a second turn");
-    expect_same(rt, (one.queue(), other.queue()), (1, 0));
-    assert!(rt; pool.pick(rt, &mut caller).is_none());
-    let (pool, queue) = finish_out(rt, pool, 9);
-    expect_same(rt, queue, 0);
-    end_turn(rt, &pool, &mut caller, one);
-    end_turn(rt, &pool, &mut caller, other);
-    check_ended(rt, pool, &[0, 1], &[0]);
+struct InHandIsOut;
+
+impl Row for InHandIsOut {
+    fn check<R: Abort + Wait, K: Station + Drop>(rt: &R, alloc: Global, queues: Vec<ServedOf<K>>)
+    where
+        K::Work: Drop + Ordered,
+        K::Book: Drop,
+    {
+        let (pool, mut caller) = new_pool(rt, alloc, queues);
+        expect_same(rt, pool.announce(rt, &mut caller, 1), Ok(()));
+        expect_same(rt, pool.announce(rt, &mut caller, 0), Ok(()));
+        let one = pool.pick(rt, &mut caller).expect(rt, "a turn");
+        let other = pool.pick(rt, &mut caller).expect(rt, "a second turn");
+        expect_same(rt, (one.queue(), other.queue()), (1, 0));
+        assert!(rt; pool.pick(rt, &mut caller).is_none());
+        let pool = finish_out(rt, pool, 9, 0);
+        end_turn(rt, &pool, &mut caller, one);
+        end_turn(rt, &pool, &mut caller, other);
+        check_ended(rt, pool, &[0, 1], &[0]);
+    }
 }
 
 #[test]
 fn in_hand_is_out(rt: HostRuntime) {
-    let alloc = rt.alloc();
-    take_both_in_hand(&rt, alloc, two_filled(&rt, alloc, 2, 1));
-    take_both_in_hand(&rt, alloc, two_with_values(&rt, alloc, 2, 1));
+    check_both::<InHandIsOut, _>(&rt, rt.alloc(), 2, 1);
 }
 
 /// What was queued and never announced is executed at the end, so many of each queue as the limit says.
-fn finish_to_its_limit<R: Abort, K: Station + Drop>(rt: &R, alloc: Global, queues: Vec<ServedOf<K>>)
-where
-    K::Work: Drop + Ordered,
-    K::Book: Drop,
-{
-    let (pool, _caller) = new_pool(rt, alloc, queues);
-    let (pool, queue, left) = finish_unfinished(rt, pool, 1);
-    expect_same(rt, (queue, left), (0, 1));
-    let finished = pool.finish(1).expect(rt, "all finished");
-    expect_same(rt, finished.len(), 2);
-    assert!(rt; finished[0].0.has_run(&[0, 1]));
+struct FinishExecutesToItsLimit;
+
+impl Row for FinishExecutesToItsLimit {
+    fn check<R: Abort + Wait, K: Station + Drop>(rt: &R, alloc: Global, queues: Vec<ServedOf<K>>)
+    where
+        K::Work: Drop + Ordered,
+        K::Book: Drop,
+    {
+        let (pool, _caller) = new_pool(rt, alloc, queues);
+        let pool = finish_unfinished(rt, pool, 1, (0, 1));
+        let finished = pool.finish(1).expect(rt, "all finished");
+        expect_same(rt, finished.len(), 2);
+        assert!(rt; finished[0].0.has_run(&[0, 1]));
+    }
 }
 
 #[test]
 fn finish_executes_to_its_limit(rt: HostRuntime) {
-    let alloc = rt.alloc();
-    finish_to_its_limit(&rt, alloc, two_filled(&rt, alloc, 2, 0));
-    finish_to_its_limit(&rt, alloc, two_with_values(&rt, alloc, 2, 0));
+    check_both::<FinishExecutesToItsLimit, _>(&rt, rt.alloc(), 2, 0);
 }
 
 /// The first queue with something left is named.
-fn name_first_left<R: Abort, K: Station + Drop>(rt: &R, alloc: Global, queues: Vec<ServedOf<K>>)
-where
-    K::Work: Drop,
-    K::Book: Drop,
-{
-    let (pool, _caller) = new_pool(rt, alloc, queues);
-    let (pool, queue, left) = finish_unfinished(rt, pool, 1);
-    expect_same(rt, (queue, left), (0, 1));
-    let (pool, queue, left) = finish_unfinished(rt, pool, 1);
-    expect_same(rt, (queue, left), (1, 1));
-    let finished = pool.finish(1).expect(rt, "all finished");
-    expect_same(rt, finished.len(), 2);
+struct FirstLeftIsNamed;
+
+impl Row for FirstLeftIsNamed {
+    fn check<R: Abort + Wait, K: Station + Drop>(rt: &R, alloc: Global, queues: Vec<ServedOf<K>>)
+    where
+        K::Work: Drop + Ordered,
+        K::Book: Drop,
+    {
+        let (pool, _caller) = new_pool(rt, alloc, queues);
+        let pool = finish_unfinished(rt, pool, 1, (0, 1));
+        let pool = finish_unfinished(rt, pool, 1, (1, 1));
+        finish_all(rt, pool, 1, 2);
+    }
 }
 
 #[test]
 fn first_left_is_named(rt: HostRuntime) {
-    let alloc = rt.alloc();
-    name_first_left(&rt, alloc, two_filled(&rt, alloc, 2, 3));
-    name_first_left(&rt, alloc, two_with_values(&rt, alloc, 2, 3));
+    check_both::<FirstLeftIsNamed, _>(&rt, rt.alloc(), 2, 3);
 }
 
 /// A queue that is out is named before one with something left, which was executed up to the limit.
-fn name_out_before_left<R: Abort + Wait, K: Station + Drop>(
-    rt: &R,
-    alloc: Global,
-    queues: Vec<ServedOf<K>>,
-)
-where
-    K::Work: Drop,
-    K::Book: Drop,
-{
-    let (pool, mut caller) = new_pool(rt, alloc, queues);
-    pool.announce(rt, &mut caller, 1).expect(rt, "room");
-    let turn = pool.pick(rt, &mut caller).expect(rt, "a turn");
-    let (pool, queue) = finish_out(rt, pool, 1);
-    expect_same(rt, queue, 1);
-    let worked = work(rt, turn, 9, &NoGate);
-    pool.put_back(&mut caller, worked);
-    let finished = pool.finish(1).expect(rt, "all finished");
-    expect_same(rt, finished.len(), 2);
+struct OutBeforeLeft;
+
+impl Row for OutBeforeLeft {
+    fn check<R: Abort + Wait, K: Station + Drop>(rt: &R, alloc: Global, queues: Vec<ServedOf<K>>)
+    where
+        K::Work: Drop + Ordered,
+        K::Book: Drop,
+    {
+        let (pool, mut caller) = new_pool(rt, alloc, queues);
+        pool.announce(rt, &mut caller, 1).expect(rt, "room");
+        let turn = pool.pick(rt, &mut caller).expect(rt, "a turn");
+        let pool = finish_out(rt, pool, 1, 1);
+        end_turn(rt, &pool, &mut caller, turn);
+        finish_all(rt, pool, 1, 2);
+    }
 }
 
 #[test]
 fn out_before_left(rt: HostRuntime) {
-    let alloc = rt.alloc();
-    name_out_before_left(&rt, alloc, two_filled(&rt, alloc, 2, 0));
-    name_out_before_left(&rt, alloc, two_with_values(&rt, alloc, 2, 0));
+    check_both::<OutBeforeLeft, _>(&rt, rt.alloc(), 2, 0);
 }
 
 /// Why no pool of these queues is made.

@@ -1,15 +1,14 @@
 //! When a run of a pool ends.
 use crate::expect::expect_same;
 use crate::pool::team::{
-    Guest, Logging, empty, filled, finish_unfinished, new_pool, new_pool_for, queue_item,
-    take_last, to_stop, work,
+    Guest, Logging, empty, filled, finish_all, finish_unfinished, new_pool, new_pool_for,
+    queue_item, take_last, to_stop,
 };
 use std::alloc::Global;
 use std::process::Abort;
 use std::slice;
 use std::sync::Wait;
 use std::thread::Threads;
-use wq_live::Sender;
 use wq_pool::{NoGate, Pool, Served};
 
 /// One worker runs a pool of so many queues.
@@ -26,36 +25,20 @@ fn run_alone<R: Abort + Threads + Wait + Sync>(rt: &R, mut guest: Guest<'_>, que
         .expect(rt, "a thread");
 }
 
-/// The pool of so many queues ends with so many executions of each.
-fn are_finished<R: Abort>(rt: &R, pool: Pool<Logging>, queues: usize, limit: u32) {
-    let finished = pool.finish(limit).expect(rt, "all finished");
-    expect_same(rt, finished.len(), queues);
-}
-
-/// Queues the stop item of queue 0, and serves the queue until it has run.
-fn stop_first<R: Abort + Wait>(rt: &R, guest: &mut Guest<'_>, sender: &mut Sender) {
-    sender.request_stop(1);
-    assert!(rt; guest.announce(rt, 0));
-    let turn = guest.pool.pick(rt, &mut guest.caller).expect(rt, "a turn");
-    let worked = work(rt, turn, 9, &NoGate);
-    guest.pool.put_back(&mut guest.caller, worked);
-}
-
 /// A queue counts once, however often its stop item runs and it is put back: the run goes on until the other's has run.
 #[test]
 fn stop_item_counts_once(rt: HostRuntime) {
-    let mut queues = Vec::new(rt.alloc());
     let (first, mut sender) = filled(&rt, rt.alloc(), 1);
-    queues.push(first).expect(&rt, "memory");
-    let mut other = to_stop(&rt, rt.alloc(), 1, 1);
-    queues.append(&mut other).expect(&rt, "memory");
+    let mut queues = to_stop(&rt, rt.alloc(), 1, 1);
+    queues.insert(0, first).expect(&rt, "memory");
     let (pool, caller) = new_pool(&rt, rt.alloc(), queues);
     let mut guest = Guest::new(&pool, caller);
     for _turn in 0..3u32 {
-        stop_first(&rt, &mut guest, &mut sender);
+        sender.request_stop(1);
+        guest.serve(&rt, 0, &NoGate);
     }
     run_alone(&rt, guest, 2);
-    are_finished(&rt, pool, 2, 0);
+    finish_all(&rt, pool, 0, 2);
 }
 
 /// A stop item that ran while the pool was to be taken apart counts: a run ends, whatever is left.
@@ -64,13 +47,11 @@ fn stop_item_counts_where_the_end_ran_it(rt: HostRuntime) {
     let (served, mut sender) = filled(&rt, rt.alloc(), 0);
     sender.request_stop(1);
     queue_item(&rt, &mut sender, 0);
-    let mut queues = Vec::new(rt.alloc());
-    queues.push(served).expect(&rt, "memory");
+    let queues = Vec::from_array(rt.alloc(), [served]).expect(&rt, "memory");
     let (pool, caller) = new_pool(&rt, rt.alloc(), queues);
-    let (pool, queue, left) = finish_unfinished(&rt, pool, 1);
-    expect_same(&rt, (queue, left), (0, 1));
+    let pool = finish_unfinished(&rt, pool, 1, (0, 1));
     run_alone(&rt, Guest::new(&pool, caller), 1);
-    are_finished(&rt, pool, 1, 1);
+    finish_all(&rt, pool, 1, 1);
 }
 
 /// A run goes on at a turn that was given back, until nothing is left of it.
@@ -79,7 +60,7 @@ fn long_turns_are_run(rt: HostRuntime) {
     let queues = to_stop(&rt, rt.alloc(), 2, 3000);
     let (pool, caller) = new_pool(&rt, rt.alloc(), queues);
     run_alone(&rt, Guest::new(&pool, caller), 2);
-    are_finished(&rt, pool, 2, 0);
+    finish_all(&rt, pool, 0, 2);
 }
 
 /// A queue whose work asks for its item again and again, with the item and the stop item queued, and so many others.
@@ -87,10 +68,8 @@ fn restless_first<R: Abort>(rt: &R, alloc: Global, others: u32) -> Vec<Served<Lo
     let (served, mut sender) = empty(rt, alloc, 1, Logging::asking(0));
     queue_item(rt, &mut sender, 0);
     sender.request_stop(1);
-    let mut queues = Vec::new(alloc);
-    queues.push(served).expect(rt, "memory");
-    let mut others = to_stop(rt, alloc, others, 1);
-    queues.append(&mut others).expect(rt, "memory");
+    let mut queues = to_stop(rt, alloc, others, 1);
+    queues.insert(0, served).expect(rt, "memory");
     queues
 }
 
@@ -101,8 +80,7 @@ fn restless_queue_ends(rt: HostRuntime) {
         let queues = restless_first(&rt, rt.alloc(), others);
         let (pool, caller) = new_pool(&rt, rt.alloc(), queues);
         run_alone(&rt, Guest::new(&pool, caller), others.saturating_add(1));
-        let (_pool, queue, left) = finish_unfinished(&rt, pool, 0);
-        expect_same(&rt, (others, queue, left), (others, 0, 1));
+        finish_unfinished(&rt, pool, 0, (0, 1));
     }
 }
 
@@ -111,15 +89,13 @@ fn restless_queue_ends(rt: HostRuntime) {
 fn second_run_leaves_what_is_announced(rt: HostRuntime) {
     let (served, mut sender) = filled(&rt, rt.alloc(), 0);
     sender.request_stop(1);
-    let mut queues = Vec::new(rt.alloc());
-    queues.push(served).expect(&rt, "memory");
+    let queues = Vec::from_array(rt.alloc(), [served]).expect(&rt, "memory");
     let (pool, caller, mut callers) = new_pool_for(&rt, rt.alloc(), queues, 1);
     let other = take_last(&rt, &pool, &mut callers);
     run_alone(&rt, Guest::new(&pool, caller), 1);
     queue_item(&rt, &mut sender, 0);
     run_alone(&rt, Guest::new(&pool, other), 1);
-    let (_pool, queue, left) = finish_unfinished(&rt, pool, 0);
-    expect_same(&rt, (queue, left), (0, 1));
+    finish_unfinished(&rt, pool, 0, (0, 1));
 }
 
 /// With no worker nothing is run, and the call returns.
@@ -130,6 +106,5 @@ fn no_worker_runs_nothing(rt: HostRuntime) {
     expect_same(&rt, callers.len(), 0);
     pool.run(&rt, callers.as_mut_slice(), &NoGate)
         .expect(&rt, "threads");
-    let (_pool, queue, left) = finish_unfinished(&rt, pool, 0);
-    expect_same(&rt, (queue, left), (0, 2));
+    finish_unfinished(&rt, pool, 0, (0, 2));
 }

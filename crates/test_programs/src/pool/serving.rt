@@ -2,8 +2,7 @@
 ghost use Rattle.std.specs.Prelude.{All};
 ghost use Rattle.wq_ready.specs.Known.{IsCallerOf};
 
-use crate::expect::expect_same;
-use crate::pool::team::{Guest, Logging, empty, finish_unfinished, new_pool_for};
+use crate::pool::team::{Guest, Logging, empty, finish_all, finish_unfinished, new_pool_for};
 use std::alloc::Global;
 use std::process::Abort;
 use std::sync::Wait;
@@ -27,9 +26,7 @@ pub(crate) struct Two {
 pub(crate) fn new_two<R: Abort>(rt: &R, alloc: Global, asks_from: u32) -> Two {
     let (first, one) = empty(rt, alloc, 1, Logging::asking(asks_from));
     let (second, two) = empty(rt, alloc, 1, Logging::new());
-    let mut queues = Vec::new(alloc);
-    queues.push(first).expect(rt, "memory");
-    queues.push(second).expect(rt, "memory");
+    let queues = Vec::from_array(alloc, [first, second]).expect(rt, "memory");
     Two { queues, one, two }
 }
 
@@ -112,14 +109,12 @@ fn run_rounds<R: Abort + Threads + Wait + Sync>(
 #[test]
 fn served_again_after_each_rest(rt: HostRuntime) {
     let pool = run_rounds(&rt, rt.alloc(), u32::MAX);
-    let finished = pool.finish(0).expect(&rt, "all finished");
-    expect_same(&rt, finished.len(), 2);
+    finish_all(&rt, pool, 0, 2);
 }
 
 /// A queue that is never empty, since its work asks for its item again and again, gives way to the other queue.
 #[test]
 fn restless_queue_gives_way(rt: HostRuntime) {
     let pool = run_rounds(&rt, rt.alloc(), 0);
-    let (_pool, queue, left) = finish_unfinished(&rt, pool, 0);
-    expect_same(&rt, (queue, left), (0, 1));
+    finish_unfinished(&rt, pool, 0, (0, 1));
 }

@@ -4,7 +4,7 @@ ghost use Rattle.wq_ready.specs.Known.{IsCallerOf};
 
 use crate::expect::expect_same;
 use crate::pool::team::{
-    Counting, Guest, Logging, filled, finish_out, take_last, two_filled, work, work_back,
+    Counting, Guest, Logging, filled, finish_out, take_last, two_filled, work_back,
 };
 use std::alloc::Global;
 use std::process::Abort;
@@ -30,14 +30,6 @@ fn work_one<R: Abort + Wait>(rt: &R, pool: &Pool<Logging>, mut caller: Caller) -
     work_back(rt, turn, 1, &NoGate)
 }
 
-/// Announces a queue, picks one, works at it to its end and puts it back.
-fn serve_one<R: Abort + Wait>(rt: &R, guest: &mut Guest<'_>, queue: u32, gate: &Counting) {
-    assert!(rt; guest.announce(rt, queue));
-    let turn = guest.pool.pick(rt, &mut guest.caller).expect(rt, "a turn");
-    let worked = work(rt, turn, 9, gate);
-    guest.pool.put_back(&mut guest.caller, worked);
-}
-
 /// Two callers serve queues 0 and 2, each in a thread of its own. How many items they ran.
 fn serve_others<R: Abort + Threads + Wait + Sync>(
     rt: &R,
@@ -51,8 +43,8 @@ fn serve_others<R: Abort + Threads + Wait + Sync>(
     let mut second = Guest::new(pool, take_last(rt, pool, &mut callers));
     join_mut(
         rt,
-        &mut || serve_one(rt, &mut first, 0, &gate),
-        &mut || serve_one(rt, &mut second, 2, &gate),
+        &mut || first.serve(rt, 0, &gate),
+        &mut || second.serve(rt, 2, &gate),
     );
     gate.count()
 }
@@ -66,9 +58,8 @@ fn others_end_while_a_turn_stops(rt: HostRuntime) {
     let stopped = take_last(&rt, &pool, &mut callers);
     let turn = work_one(&rt, &pool, stopped);
     expect_same(&rt, serve_others(&rt, &pool, callers), 6);
-    let (pool, queue) = finish_out(&rt, pool, 0);
-    expect_same(&rt, (queue, turn.queue()), (1, 1));
+    let pool = finish_out(&rt, pool, 0, 1);
+    expect_same(&rt, turn.queue(), 1);
     drop(turn);
-    let (_pool, queue) = finish_out(&rt, pool, 0);
-    expect_same(&rt, queue, 1);
+    finish_out(&rt, pool, 0, 1);
 }

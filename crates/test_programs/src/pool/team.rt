@@ -2,6 +2,7 @@
 ghost use Rattle.std.specs.Prelude.{◌≡◌, [], All};
 ghost use Rattle.wq_ready.specs.Known.{IsCallerOf};
 
+use crate::expect::expect_same;
 use arrayvec::ArrayVec;
 use std::alloc::Global;
 use std::process::Abort;
@@ -141,12 +142,9 @@ pub(crate) fn two_filled<R: Abort>(
     first: u32,
     second: u32,
 ) -> Vec<Served<Logging>> {
-    let mut queues = Vec::new(alloc);
     let (one, _sender) = filled(rt, alloc, first);
     let (other, _sender) = filled(rt, alloc, second);
-    queues.push(one).expect(rt, "memory");
-    queues.push(other).expect(rt, "memory");
-    queues
+    Vec::from_array(alloc, [one, other]).expect(rt, "memory")
 }
 
 /// So many queues, with so many items queued in each.
@@ -244,6 +242,14 @@ impl<'a, K: Station + Drop> GuestOf<'a, K> {
         self.pool.announce(rt, &mut self.caller, queue).is_ok()
     }
 
+    /// Announces a queue, picks one, works at it to its end and puts it back.
+    pub(crate) fn serve<R: Abort + Wait, G: Gate>(&mut self, rt: &R, queue: u32, gate: &G) {
+        assert!(rt; self.announce(rt, queue));
+        let turn = self.pool.pick(rt, &mut self.caller).expect(rt, "a turn");
+        let worked = work(rt, turn, 9, gate);
+        self.pool.put_back(&mut self.caller, worked);
+    }
+
     /// Does what the answer of a queueing on this queue asks for.
     pub(crate) fn wake<R: Abort + Wait>(&mut self, rt: &R, queue: u32, answer: Answer) {
         let woken = self.pool.wake(rt, &mut self.caller, queue, answer);
@@ -319,36 +325,60 @@ pub(crate) fn serve_queue<R: Abort + Wait, K: Station + Drop>(
     pool.put_back(caller, worked);
 }
 
-/// Finishes a pool of which a queue is out, and gives it back with the number of the queue.
+/// Finishes a pool of which this queue is out, and gives it back.
 pub(crate) fn finish_out<R: Abort, K: Station + Drop>(
     rt: &R,
     pool: PoolOf<K>,
     limit: u32,
-) -> (PoolOf<K>, u32)
+    out: u32,
+) -> PoolOf<K>
 where
     K::Work: Drop,
     K::Book: Drop,
-    ensures { result.0 ≡ pool }
+    ensures { result ≡ pool }
 {
     match pool.finish(limit) {
-        Err(PoolFaultOf::Out { pool, queue }) => (pool, queue),
+        Err(PoolFaultOf::Out { pool, queue }) => {
+            expect_same(rt, queue, out);
+            pool
+        }
         _ => panic!(rt; "no queue was out"),
     }
 }
 
-/// Finishes a pool that is not executed within the limit, and gives it back with the number of the queue and what is left of it.
+/// Finishes a pool that is not executed within the limit, and gives it back. The queue that is named and what is left of it are
+/// these.
 pub(crate) fn finish_unfinished<R: Abort, K: Station + Drop>(
     rt: &R,
     pool: PoolOf<K>,
     limit: u32,
-) -> (PoolOf<K>, u32, u32)
+    unfinished: (u32, u32),
+) -> PoolOf<K>
 where
     K::Work: Drop,
     K::Book: Drop,
-    ensures { result.0 ≡ pool }
+    ensures { result ≡ pool }
 {
     match pool.finish(limit) {
-        Err(PoolFaultOf::Unfinished { pool, queue, left }) => (pool, queue, left),
+        Err(PoolFaultOf::Unfinished { pool, queue, left }) => {
+            expect_same(rt, (queue, left), unfinished);
+            pool
+        }
         _ => panic!(rt; "nothing was left"),
     }
+}
+
+/// Finishes a pool of so many queues, with so many executions of each.
+pub(crate) fn finish_all<R: Abort, K: Station + Drop>(
+    rt: &R,
+    pool: PoolOf<K>,
+    limit: u32,
+    queues: usize,
+)
+where
+    K::Work: Drop,
+    K::Book: Drop,
+{
+    let finished = pool.finish(limit).expect(rt, "all finished");
+    expect_same(rt, finished.len(), queues);
 }

@@ -86,9 +86,7 @@ fn noted_queue<'a, R: Abort>(rt: &R, alloc: Global, notes: &'a Noting) -> Vec<Se
     let (served, mut senders) = new_queue(rt, alloc, layout, Noted::new(notes));
     let mut sender = senders.pop().expect(rt, "a sender");
     queue_four(rt, &mut sender);
-    let mut queues = Vec::new(alloc);
-    queues.push(served).expect(rt, "memory");
-    queues
+    Vec::from_array(alloc, [served]).expect(rt, "memory")
 }
 
 /// Works at a queue in three calls, the first two of which come to their limit.
@@ -137,7 +135,6 @@ fn dropped_stays_out(rt: HostRuntime) {
     pool.announce(&rt, &mut caller, 1).expect(&rt, "room");
     pool.announce(&rt, &mut caller, 0).expect(&rt, "room");
     drop_first(&rt, &pool, &mut caller);
-    let (pool, queue) = finish_out(&rt, pool, 9);
-    expect_same(&rt, queue, 1);
+    let pool = finish_out(&rt, pool, 9, 1);
     assert!(rt; pool.pick(&rt, &mut caller).is_none());
 }

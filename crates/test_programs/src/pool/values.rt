@@ -126,12 +126,9 @@ pub(crate) fn two_with_values<'a, R: Abort>(
     first: u32,
     second: u32,
 ) -> Vec<ValueServed<u64, Carrying<'a, R, u64>>> {
-    let mut queues = Vec::new(alloc);
     let (one, _sender) = filled_with_values(rt, alloc, first);
     let (other, _sender) = filled_with_values(rt, alloc, second);
-    queues.push(one).expect(rt, "memory");
-    queues.push(other).expect(rt, "memory");
-    queues
+    Vec::from_array(alloc, [one, other]).expect(rt, "memory")
 }
 
 /// So many queues, with so many items queued in each.

@@ -5,7 +5,7 @@ ghost use Rattle.wq_ready.specs.Known.{IsCallerOf};
 use crate::expect::expect_same;
 use std::alloc::Global;
 use std::process::Abort;
-use std::test::Fail;
+use std::sync::Wait;
 use wq_ready::{AnnounceError, Caller, ReadyQueue, Size};
 
 /// A ready queue for three queues, and two callers of it, the one with the higher number first.
@@ -38,50 +38,68 @@ fn new_pair<R: Abort>(rt: &R, alloc: Global) -> Pair
     Pair { ready, last, first }
 }
 
+/// An announcement of a queue by a caller is answered so.
+fn announces<R: Abort + Wait>(
+    rt: &R,
+    ready: &ReadyQueue,
+    caller: &mut Caller,
+    queue: u32,
+    answer: Result<(), AnnounceError>,
+)
+    requires { IsCallerOf ready.now caller.old }
+    ensures { IsCallerOf ready.now caller.new }
+{
+    expect_same(rt, ready.announce(rt, caller, queue), answer);
+}
+
+/// A pick by a caller finds this queue, or none.
+fn picks<R: Abort + Wait>(rt: &R, ready: &ReadyQueue, caller: &mut Caller, queue: Option<u32>)
+    requires { IsCallerOf ready.now caller.old }
+    ensures { IsCallerOf ready.now caller.new }
+{
+    expect_same(rt, ready.pick(rt, caller), queue);
+}
+
 /// What is announced by either caller is picked by either, in the order of the announcements, each once.
 #[test]
-fn first_in_first_out(rt: HostRuntime) -> Result<(), Fail> {
-    let mut pair = new_pair(&rt, rt.alloc());
-    expect_same(&rt, (pair.first.number(), pair.last.number()), (0, 1));
-    expect_same(&rt, pair.ready.pick(&rt, &mut pair.first), None);
-    expect_same(&rt, pair.ready.announce(&rt, &mut pair.first, 2), Ok(()));
-    expect_same(&rt, pair.ready.announce(&rt, &mut pair.last, 0), Ok(()));
-    expect_same(&rt, pair.ready.announce(&rt, &mut pair.first, 2), Ok(()));
-    expect_same(&rt, pair.ready.pick(&rt, &mut pair.last), Some(2));
-    expect_same(&rt, pair.ready.pick(&rt, &mut pair.first), Some(0));
-    expect_same(&rt, pair.ready.pick(&rt, &mut pair.first), Some(2));
-    expect_same(&rt, pair.ready.pick(&rt, &mut pair.last), None);
-    Ok(())
+fn first_in_first_out(rt: HostRuntime) {
+    let Pair {
+        ready,
+        mut last,
+        mut first,
+    } = new_pair(&rt, rt.alloc());
+    expect_same(&rt, (first.number(), last.number()), (0, 1));
+    picks(&rt, &ready, &mut first, None);
+    announces(&rt, &ready, &mut first, 2, Ok(()));
+    announces(&rt, &ready, &mut last, 0, Ok(()));
+    announces(&rt, &ready, &mut first, 2, Ok(()));
+    picks(&rt, &ready, &mut last, Some(2));
+    picks(&rt, &ready, &mut first, Some(0));
+    picks(&rt, &ready, &mut first, Some(2));
+    picks(&rt, &ready, &mut last, None);
 }
 
 /// As many announcements wait as there are queues, and one that was picked makes room for one.
 #[test]
-fn full_at_its_size(rt: HostRuntime) -> Result<(), Fail> {
-    let mut pair = new_pair(&rt, rt.alloc());
-    expect_same(
+fn full_at_its_size(rt: HostRuntime) {
+    let Pair {
+        ready,
+        mut last,
+        mut first,
+    } = new_pair(&rt, rt.alloc());
+    announces(&rt, &ready, &mut first, 3, Err(AnnounceError::NoQueue));
+    announces(&rt, &ready, &mut first, 1, Ok(()));
+    announces(&rt, &ready, &mut first, 1, Ok(()));
+    announces(&rt, &ready, &mut last, 0, Ok(()));
+    announces(&rt, &ready, &mut last, 2, Err(AnnounceError::Full));
+    announces(
         &rt,
-        pair.ready.announce(&rt, &mut pair.first, 3),
+        &ready,
+        &mut last,
+        u32::MAX,
         Err(AnnounceError::NoQueue),
     );
-    expect_same(&rt, pair.ready.announce(&rt, &mut pair.first, 1), Ok(()));
-    expect_same(&rt, pair.ready.announce(&rt, &mut pair.first, 1), Ok(()));
-    expect_same(&rt, pair.ready.announce(&rt, &mut pair.last, 0), Ok(()));
-    expect_same(
-        &rt,
-        pair.ready.announce(&rt, &mut pair.last, 2),
-        Err(AnnounceError::Full),
-    );
-    expect_same(
-        &rt,
-        pair.ready.announce(&rt, &mut pair.last, u32::MAX),
-        Err(AnnounceError::NoQueue),
-    );
-    expect_same(&rt, pair.ready.pick(&rt, &mut pair.first), Some(1));
-    expect_same(&rt, pair.ready.announce(&rt, &mut pair.first, 2), Ok(()));
-    expect_same(
-        &rt,
-        pair.ready.announce(&rt, &mut pair.first, 0),
-        Err(AnnounceError::Full),
-    );
-    Ok(())
+    picks(&rt, &ready, &mut first, Some(1));
+    announces(&rt, &ready, &mut first, 2, Ok(()));
+    announces(&rt, &ready, &mut first, 0, Err(AnnounceError::Full));
 }
