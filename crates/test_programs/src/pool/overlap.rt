@@ -134,27 +134,34 @@ fn run_all<R: Abort + Threads + Wait + Sync, K: Station + Drop + Send, G: Gate +
         .expect(rt, "memory");
 }
 
+/// The same with an item in each of so many plain queues, and then in each of as many queues whose items bring values.
+fn run_both<R: Abort + Threads + Wait + Sync, G: Gate + Sync>(
+    rt: &R,
+    alloc: Global,
+    count: u32,
+    gate: &G,
+    value_gate: &G,
+) {
+    run_all(rt, alloc, to_stop(rt, alloc, count, 1), count, gate);
+    let queues = to_stop_with_values(rt, alloc, count, 1);
+    run_all(rt, alloc, queues, count, value_gate);
+}
+
 /// Three workers are each within an item of a queue of its own, at one time.
 #[test]
 fn pool_three_workers_overlap(rt: HostRuntime) {
-    let alloc = rt.alloc();
     let (gate, value_gate) = (Meeting::new(), Meeting::new());
-    run_all(&rt, alloc, to_stop(&rt, alloc, 3, 1), 3, &gate);
+    run_both(&rt, rt.alloc(), 3, &gate, &value_gate);
     expect_same(&rt, gate.met.load(SeqCst), 3);
-    let queues = to_stop_with_values(&rt, alloc, 3, 1);
-    run_all(&rt, alloc, queues, 3, &value_gate);
     expect_same(&rt, value_gate.met.load(SeqCst), 3);
 }
 
 /// While one worker of two waits before the item of queue 0, the other executes queue 1.
 #[test]
 fn pool_two_workers_overlap(rt: HostRuntime) {
-    let alloc = rt.alloc();
     let (gate, value_gate) = (Waiting::new(), Waiting::new());
-    run_all(&rt, alloc, to_stop(&rt, alloc, 2, 1), 2, &gate);
+    run_both(&rt, rt.alloc(), 2, &gate, &value_gate);
     expect_same(&rt, gate.came.load(SeqCst), 1);
-    let queues = to_stop_with_values(&rt, alloc, 2, 1);
-    run_all(&rt, alloc, queues, 2, &value_gate);
     expect_same(&rt, value_gate.came.load(SeqCst), 1);
 }
 
