@@ -72,10 +72,10 @@ fn first_in_first_out(rt: HostRuntime) {
     picks(&rt, &ready, &mut first, None);
     announces(&rt, &ready, &mut first, 2, Ok(()));
     announces(&rt, &ready, &mut last, 0, Ok(()));
-    announces(&rt, &ready, &mut first, 2, Ok(()));
+    announces(&rt, &ready, &mut first, 1, Ok(()));
     picks(&rt, &ready, &mut last, Some(2));
     picks(&rt, &ready, &mut first, Some(0));
-    picks(&rt, &ready, &mut first, Some(2));
+    picks(&rt, &ready, &mut first, Some(1));
     picks(&rt, &ready, &mut last, None);
 }
 
