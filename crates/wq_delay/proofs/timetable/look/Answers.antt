@@ -19,6 +19,12 @@ pub index-after-requires : goal.index-after-requires
 index-after-requires c =
     let l = c.loop-item.invariant.0 in omega (arith, l.low, l.gathering.wheel.next_length, c.loop-item.rings.next.ok.0)
 
+pub bounds : goal.bounds
+bounds c = let h = c.requires.head in (item_here _ _ _ _ _ _ _ h.0 h.1 c.loop-item.invariant.0 c.loop-item-test.true).0
+
+pub bounds-places-item : goal.bounds-places-item
+bounds-places-item c = let h = c.requires.head in (item_here _ _ _ _ _ _ _ h.0 h.1 c.loop-item.invariant.0 c.loop-item-test.true).0
+
 pub take_out-requires-clause-place : goal.take_out-requires-clause-place
 take_out-requires-clause-place c =
     let l = c.loop-item.invariant.0 in let w = l.gathering.wheel in (omega (arith, l.low, w.next_length), omega (arith, l.low, w.previous_length))
