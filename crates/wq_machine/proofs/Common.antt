@@ -2,6 +2,7 @@
 pub use Rattle.std.proofs.Common.{tests, IfSome}
 pub use Rattle.std.proofs.lemmas.Bool.{false≢true}
 pub use Rattle.std.proofs.lemmas.Grind.{common_steps}
+pub use Rattle.std.proofs.lemmas.Result.{MatchResult-from_err}
 pub use Rattle.std.proofs.lemmas.Iterator.Adapters.{items_from_extend}
 pub use Rattle.wq_words.proofs.Common.{rules, take_more, reverse-append, take_all, slice_get_past, YieldsList-from_slice, YieldsList-from_filter_map}
 pub use Rattle.wq_core.specs.Machine.{MaySwap}
@@ -12,7 +13,7 @@ pub use Rattle.wq_words.specs.declared.layout.Layout.{Layout}
 pub use Rattle.wq_core.specs.declared.step.Private.{Private}
 pub use Rattle.wq_core.specs.declared.step.Step.{Step}
 pub use Rattle.wq_core.specs.declared.step.Step.TheVariants.{Look, Link, Check, Walk}
-pub use Rattle.wq_core.proofs.Common.{◌%◌, ◌^◌, length-set, replicate, ⊎_elim, cases_eq, length-replicate, listed, ◌≡◌, ◌≢◌, ℕ, ◌+◌, ◌<◌, ◌==◌, List, [], ◌∷◌}
+pub use Rattle.wq_core.proofs.Common.{eq-eqb, ◌%◌, ◌^◌, length-set, replicate, ⊎_elim, cases_eq, length-replicate, listed, ◌≡◌, ◌≢◌, ℕ, ◌+◌, ◌<◌, ◌==◌, List, [], ◌∷◌}
 pub use Rattle.wq_core.proofs.Common.{◌++◌, length, get_or, set, Option, Some, None, refl, sym, ap, ◌∙◌, arith, reverse, ◌≤◌, inl, inr, take, ◌-◌}
 pub use Rattle.wq_core.proofs.Common.{length-append, ◌↔◌, get_or-set_other, get_or-set_same, busy_word, number_count, ended, IsShut, begun, accepted_by}
 pub use Rattle.wq_core.proofs.Common.{begun_by, Holds, IsRunning, running, IsLegal, Keeper, Home, Sender, Listed, Owner, keeper_after, keeper, taken_over}

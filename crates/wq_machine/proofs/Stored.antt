@@ -219,6 +219,10 @@ module _ (m : Machine) (holders : List (Option ℕ)) (runs : Option ℕ) (o : Is
 pub by_last : (xs ys : List ℕ) (k : ℕ) → xs ≡ ys ++ k ∷ [] → reverse xs ≡ k ∷ reverse ys
 by_last xs ys k e = rw e (reverse-append ys (k ∷ []))
 
+-- an event is added
+pub grows : (h : List Event) (e : Event) → h ++ e ∷ [] ≢ h
+grows h e same = omega (arith, length-append h (e ∷ []), ap length same)
+
 -- a stack that is not empty: its top, and what is left when that is taken off
 pub by_top : (xs : List ℕ) (k : ℕ) → reverse xs ≢ [] → k ≡ get_or xs (length xs - 1) k → reverse xs ≡ k ∷ reverse (take (length xs - 1) xs)
 by_top xs k ne top = go xs refl ne

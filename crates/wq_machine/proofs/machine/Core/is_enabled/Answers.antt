@@ -1,6 +1,21 @@
-use Rattle.wq_machine.proofs.Common.{inl, inr, ⊎_elim, sym, ◌∙◌, false≢true}
+use Rattle.wq_machine.proofs.Common.{rules, arith, common_steps, inl, inr, ⊎_elim, sym, ◌∙◌, false≢true}
 use Rattle.wq_words.proofs.Times.{any_stored}
 use Rattle.wq_machine.proofs.machine.Core.is_enabled.Goals as goal
+
+pub returns-then-is_held : goal.returns-then-is_held
+returns-then-is_held c = search rules
+
+pub returns-then-is_held-2 : goal.returns-then-is_held-2
+returns-then-is_held-2 c = search rules
+
+pub returns-then-is_none : goal.returns-then-is_none
+returns-then-is_none c = grind (arith, common_steps)
+
+pub returns-else-is_some : goal.returns-else-is_some
+returns-else-is_some c = grind (arith, common_steps)
+
+pub returns-else-not-is_empty : goal.returns-else-not-is_empty
+returns-else-not-is_empty c = grind (arith, common_steps)
 
 pub returns-then-contains : goal.returns-then-contains
 returns-then-contains c =
