@@ -11,6 +11,12 @@ use Rattle.wq_meaning.specs.ScheduleHistory.{Passes}
 abbrev pub Continues : Layout → List Turn → Machine → List Turn → List ℕ → Type 0
 Continues layout turns m left out = (n : Machine) (rest : List ℕ) → AllGive m left n rest → AllGive (opening layout) turns n (out ++ rest)
 
+pub continues_opening : (layout : Layout) (turns : List Turn) (m : Machine) (out : List ℕ) → m ≡ opening layout → out ≡ []
+    → Continues layout turns m turns out
+continues_opening layout turns m out opened none n rest given =
+    let P : Machine → Type 0 = λ x. AllGive x turns n rest in
+    subst (λ (xs : List ℕ). AllGive (opening layout) turns n (xs ++ rest)) (sym none) (subst P opened given)
+
 pub continues_behind : (layout : Layout) (turns : List Turn) (i : ℕ) (d : Turn) (m next : Machine) (out new : List ℕ)
     → i < length turns → GivesBehind m (get_or turns i d) next out new
     → Continues layout turns m (drop i turns) out → Continues layout turns next (drop (i + 1) turns) new

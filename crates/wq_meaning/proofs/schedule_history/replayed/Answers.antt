@@ -1,9 +1,11 @@
-use Rattle.wq_meaning.proofs.Common.{arith, refl, ◌∙◌, ap, ◌<◌, List, ◌++◌, length, get_or, subst, Turn}
+use Rattle.wq_core.specs.Machine.{opening}
+use Rattle.wq_text.specs.Turns.{PlacedIn}
+use Rattle.wq_meaning.proofs.Common.{arith, refl, sym, ◌∙◌, ap, ◌<◌, List, [], Layout, ◌++◌, length, get_or, subst, Turn}
 use Rattle.std.proofs.Math.ListN.{drop_of_length-le}
 use Rattle.wq_core.specs.declared.step.Seat.TheVariants.{Sender}
 use Rattle.wq_core.specs.declared.step.Step.TheVariants.{Hold}
 use Rattle.wq_meaning.specs.ScheduleHistory.{Passes}
-use Rattle.wq_meaning.proofs.ScheduleLines.{continues_behind, given_whole, written}
+use Rattle.wq_meaning.proofs.ScheduleLines.{continues_opening, continues_behind, given_whole, written}
 use Rattle.wq_meaning.proofs.schedule_history.replayed.Goals as goal
 
 pub loop-seat-preserved : goal.loop-seat-preserved
@@ -31,3 +33,14 @@ returns-clause-passed c =
       given_whole c.args.schedule.now.layout turns _ c.loop-seat.core before.0
           (drop_of_length-le turns (omega (arith, ap length c.turns-seat-items.ensures.value))) before.1,
     )
+
+pub pass_turn-requires : goal.pass_turn-requires
+pass_turn-requires c =
+    let turn : Turn = get_or c.turns-seat-items.result.now c.loop-seat.seat-index (Sender 0, Hold 0) in
+    subst (λ (l : Layout). PlacedIn l turn) (sym c.loop-seat.invariant.same)
+    (c.turns-seat-items.ensures.fits c.loop-seat.seat-index (Sender 0, Hold 0) c.loop-seat-test.true)
+
+pub loop-seat-init : goal.loop-seat-init
+loop-seat-init c =
+    let opened = c.in_ok-core.ensures.opening ∙ ap opening c.layout.ensures.numbers in
+    record { same = ap (λ m. m.layout) opened; told = ([], continues_opening c.args.schedule.now.layout _ _ _ opened refl) }

@@ -1,8 +1,10 @@
-use Rattle.wq_meaning.proofs.Common.{arith, ◌∙◌, ap, sym, ◌<◌, List, length, get_or, string_bytes, subst, Turn, GivesBehind}
+use Rattle.wq_meaning.proofs.Common.{arith, ◌∙◌, ap, sym, ◌<◌, List, Layout, length, get_or, string_bytes, subst, Turn, GivesBehind}
 use Rattle.std.proofs.Math.ListN.{drop_of_length-le}
+use Rattle.wq_core.specs.Machine.{opening}
 use Rattle.wq_core.specs.declared.step.Seat.TheVariants.{Sender}
 use Rattle.wq_core.specs.declared.step.Step.TheVariants.{Hold}
-use Rattle.wq_meaning.proofs.ScheduleLines.{continues_behind, output_whole}
+use Rattle.wq_text.specs.Turns.{PlacedIn}
+use Rattle.wq_meaning.proofs.ScheduleLines.{continues_opening, continues_behind, output_whole}
 use Rattle.wq_meaning.proofs.schedule_output.output_text.Goals as goal
 
 pub loop-seat-preserved : goal.loop-seat-preserved
@@ -25,3 +27,19 @@ returns c =
     let turns : List Turn = c.args.schedule.now.turns.items in
     output_whole c.args.schedule.now.layout turns _ c.loop-seat.core _ _
     (drop_of_length-le turns (omega (arith, ap length c.turns-seat-items.ensures.value))) c.loop-seat.invariant.told c.in_ok-write_ending.ensures.written
+
+pub make_turn-requires : goal.make_turn-requires
+make_turn-requires c =
+    let turn : Turn = get_or c.turns-seat-items.result.now c.loop-seat.seat-index (Sender 0, Hold 0) in
+    let placed : PlacedIn c.args.schedule.now.layout turn =
+    c.turns-seat-items.ensures.fits c.loop-seat.seat-index (Sender 0, Hold 0) c.loop-seat-test.true in
+    let numbers = sym c.layout-layout.ensures.numbers in
+    record { same = c.loop-seat.invariant.same ∙ numbers; placed = subst (λ (l : Layout). PlacedIn l turn) numbers placed }
+
+pub loop-seat-init : goal.loop-seat-init
+loop-seat-init c =
+    let opened = c.in_ok-core.ensures.opening ∙ ap opening c.layout-layout.ensures.numbers in
+    record {
+      same = ap (λ m. m.layout) opened;
+      told = continues_opening c.args.schedule.now.layout _ _ _ opened c.new-out.ensures.bytes;
+    }
