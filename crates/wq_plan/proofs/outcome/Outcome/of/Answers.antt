@@ -1,14 +1,36 @@
 use Rattle.wq_plan.proofs.Common.{◌≡◌, ℕ, ◌*◌, List, length, sym, ap, ◌∙◌, subst, running_same, Known, LedgerState, MatchBool, Unbalanced, IsUnbalanced}
-use Rattle.wq_plan.proofs.Common.{sender_counts, IsWhole, All, IsLedgerOf}
+use Rattle.wq_plan.proofs.Common.{sender_counts, IsWhole, All, IsLedgerOf, arith}
 use Rattle.wq_ledger.specs.declared.totals.Totals.{Totals}
 use Rattle.wq_ledger.specs.Balance.{Balances}
 use Rattle.wq_plan.proofs.Booking.{sum_same}
 use Rattle.wq_plan.proofs.Ended.{IsOver, surely, never_unbalanced, tells, ran_all, all_counted, senders_count}
 use Rattle.wq_plan.proofs.outcome.Outcome.of.Goals as goal
 
+pub meet_senders-requires-clause-one : goal.meet_senders-requires-clause-one
+meet_senders-requires-clause-one g c = let run = c.requires.run.1 in λ k d lt. (run.each k d (omega (arith, lt, run.count))).queue_is
+
+pub meet_senders-requires-clause-legal : goal.meet_senders-requires-clause-legal
+meet_senders-requires-clause-legal g c = c.requires.run.1.legal
+
+pub destroy-work-requires-clause-seat : goal.destroy-work-requires-clause-seat
+destroy-work-requires-clause-seat g c = let run = c.requires.run in
+    λ is. omega (arith, is, c.meet_senders.ensures.worker.same.number_is, run.1.number_is, run.0.in_limits.few_senders)
+
 pub destroy-work-requires-clause-idle : goal.destroy-work-requires-clause-idle
 destroy-work-requires-clause-idle g c = λ runs. c.requires.run.1.idle
     (running_same c.meet_senders.new.worker.seen c.args.team.worker.seen (sym c.meet_senders.ensures.worker.untouched) runs)
+
+pub destroy-work-requires-clause-legal : goal.destroy-work-requires-clause-legal
+destroy-work-requires-clause-legal g c = c.meet_senders.ensures.worker.legal
+
+pub settle-requires-clause-one : goal.settle-requires-clause-one
+settle-requires-clause-one g c = let run = c.requires.run.1 in let known = c.meet_senders.ensures.senders in
+    λ k d lt. (known.each k d (omega (arith, lt, known.count))).same.queue_is ∙ ((run.each k d (omega (arith, lt, known.count, run.count))).queue_is
+    ∙ sym (c.destroy-work.ensures.queue_is ∙ c.meet_senders.ensures.worker.same.queue_is))
+
+pub settle-requires-clause-program : goal.settle-requires-clause-program
+settle-requires-clause-program g c = c.requires.run.1.program_queue ∙ sym (c.destroy-work.ensures.queue_is
+    ∙ c.meet_senders.ensures.worker.same.queue_is)
 
 pub is_balanced-is_balanced-requires : goal.is_balanced-is_balanced-requires
 is_balanced-is_balanced-requires g c = subst (All (IsLedgerOf c.in_ok-book.book.seen)) (sym c.deref-2.ensures.value) c.in_ok-book.ensures.made
