@@ -1,11 +1,12 @@
 -- What the parts of a line come to.
 use Rattle.std.proofs.Common.{◌≡◌, ◌≢◌, ℕ, ◌+◌, ◌-◌, ◌<◌, ◌≤◌, ◌⊎◌, ◌||◌, Bool, true, false, List, [], ◌++◌, All, Option, Some, None, OnSome, Result, Ok, Err, IfOk, IsTrue, ◌↔◌, length}
-use Rattle.std.proofs.Common.{take, drop, slice_index, nat_lt, get_or, inl, inr, refl, le_refl, sym, ap, subst, ◌∙◌, arith, length-append, length-take-le, get_or-take}
+use Rattle.std.proofs.Common.{min, take, drop, slice_index, nat_lt, get_or, inl, inr, refl, le_refl, sym, ap, subst, ◌∙◌, arith, length-append, length-take, length-take-le, get_or-take}
 use Rattle.std.proofs.lemmas.Bool.{ltb-true}
 use Rattle.wq_words.proofs.Common.{cases_lt}
 use Rattle.std.proofs.lemmas.List.{append-nil, get_or-append-add, take-take, drop_all}
 use Rattle.std.proofs.Math.Seq.{take-append_seam, drop-append_seam, take-append-add}
 use Rattle.std.proofs.lemmas.List.Elements.{All-append, All-more, All-take}
+use Rattle.std.specs.List.{AllWithin, HoldsAt}
 use Rattle.std.specs.Io.{StartsWith, StopsAt, IsEmptyOrEndsWith, appended_bytes}
 use Rattle.std.specs.Io.KnownBytes.{Consumes, IsAtEnd, Keeps}
 use Rattle.std.proofs.KnownBytes.{starts_with_rest, Consumes-nil, Consumes-kept, Consumes-trans}
@@ -124,3 +125,30 @@ ends_on a b c old new before (inr (inl long)) = inr (inl long)
 ends_on None b c old new before (inr (inr end)) = inr (inr tt)
 ends_on (Some x) None c old new before (inr (inr end)) = absurd before
 ends_on (Some x) (Some y) c old new before (inr (inr end)) = inr (inr end)
+
+-- the part of a line that is at hand, where it has room for so many of these bytes
+module _ (bytes : List ℕ) (room most : ℕ) (is : most ≡ min room (length bytes)) where
+  none_in_front : (place n : ℕ) → n ≤ place → n ≤ most → AllWithin (λ x. x ≢ 10) (take most bytes) 0 place → All (λ x. x ≢ 10) (take n bytes)
+  none_in_front place n before within none k d lt =
+      let here : k < n = omega (arith, lt, length-take n bytes) in
+      subst (λ x. x ≢ 10) (get_or-take most bytes k d (omega arith) ∙ sym (get_or-take n bytes k d here)) (none k d (omega arith) (omega arith))
+
+  pub part_to_lf : (place : ℕ)
+      → (place < length (take most bytes)) × HoldsAt (λ x. x ≡ 10) (take most bytes) place × AllWithin (λ x. x ≢ 10) (take most bytes) 0 place
+      → (place + 1 ≤ length bytes) × (place + 1 ≤ room) × All (λ x. x ≢ 10) (take (place + 1 - 1) bytes)
+      × (0 < place + 1) × (slice_index bytes (place + 1 - 1) ≡ 10)
+  part_to_lf place first =
+      let within : place < most = omega (arith, first.0, length-take most bytes) in
+      let last : place + 1 - 1 ≡ place = omega arith in (
+        omega (arith, within, is),
+        omega (arith, within, is),
+        none_in_front place (place + 1 - 1) (omega arith) (omega (arith, within)) first.2,
+        omega arith,
+        ap (slice_index bytes) last ∙ sym (get_or-take most bytes place 0 within) ∙ first.1 0,
+      )
+
+  pub part_without_lf : AllWithin (λ x. x ≢ 10) (take most bytes) 0 (length (take most bytes))
+      → (most ≤ length bytes) × (most ≤ room) × All (λ x. x ≢ 10) (take (most - 1) bytes) × (most < length bytes → most < room → ⊥)
+  part_without_lf none =
+      let front = none_in_front (length (take most bytes)) (most - 1) (omega (arith, is, length-take most bytes)) (omega arith) none in
+      (omega (arith, is), omega (arith, is), front, λ less free. omega (arith, is))
