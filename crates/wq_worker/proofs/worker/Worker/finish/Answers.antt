@@ -1,8 +1,8 @@
 use Rattle.wq_worker.proofs.Common.{◌≡◌, ℕ, ◌<◌, ◌≤◌, Option, Some, [], ◌∷◌, arith, ap, sym, refl, ◌∙◌, subst, drop, length, drop_of_length-le}
-use Rattle.wq_worker.proofs.Common.{Layout, End, number_count, running, Both, WorkerState, stays, runs_some}
-use Rattle.std.proofs.Common.{length-drop}
+use Rattle.wq_worker.proofs.Common.{Layout, End, number_count, running, Both, WorkerState, stays, runs_some, IsContended}
+use Rattle.std.proofs.Common.{length-drop, get_or, get_or-drop, add-zero}
 use Rattle.wq_worker.specs.State.{AreWorkerParts}
-use Rattle.wq_worker.specs.Step.{OwesBy, EndsBy, Runs}
+use Rattle.wq_worker.specs.Step.{OwesBy, EndsBy, Runs, IsKind}
 use Rattle.wq_worker.proofs.Running.{number_runs}
 use Rattle.wq_worker.proofs.Follow.{advance_stays, advance_layout, advance_legal}
 use Rattle.wq_worker.proofs.State.{advance_fits, fit_both}
@@ -11,6 +11,16 @@ use Rattle.wq_worker.proofs.worker.Worker.finish.Goals as goal
 
 runs_at : {W : Type 0} (a b : WorkerState W) (r : Option ℕ) → a ≡ b → running b.seen ≡ r → running a.seen ≡ r
 runs_at a b r is h = ap (λ (z : WorkerState _). running z.seen) is ∙ h
+
+pub queue_rest-at-requires : goal.queue_rest-at-requires
+queue_rest-at-requires g c =
+    let i = c.self.inside in let k = c.args.number in let long = ap (length {A = ℕ}) c.as_slice.ensures.value in
+    let a : WorkerState g.row.W.Denot = state_of i.pair i.tries (drop i.at i.follow.items) i.work in record {
+      legal = c.self.invariant.legal;
+      runs = runs_some i.pair.seen k (runs_at a c.args.self.now (Some k) c.self.view_is c.requires);
+      tries = c.self.invariant.some_try;
+      from = omega (arith, c.self.invariant.within, long);
+    }
 
 pub invariant_of-self : goal.invariant_of-self
 invariant_of-self g c = let i = c.self.inside in let adv = rw c.as_slice.ensures.value at c.queue_rest-at.ensures.queued in
@@ -79,3 +89,16 @@ returns-then-at-len-clause-logged g c = (invariant_of-self g c).logged
 
 pub returns-clause-logged : goal.returns-clause-logged
 returns-clause-logged g c = (invariant_of-self-2 g c).logged
+
+pub returns-then-at-len-clause-owed : goal.returns-then-at-len-clause-owed
+returns-then-at-len-clause-owed g c =
+    let i = c.self.inside in let fs = i.follow.items in let r = c.queue_rest-at.result in let p = c.queue_rest-at.new.pair in
+    let low : r < length fs = omega arith in let there = rw c.as_slice.ensures.value at c.queue_rest-at.ensures.contended in
+    λ k is. subst (λ (z : WorkerState g.row.W.Denot). IsContended z.number (get_or (drop r fs) 0 0) z.tries p.seen) c.self.view_is
+    (rw (get_or-drop r fs 0 0, add-zero) (there low))
+
+pub returns-clause-some : goal.returns-clause-some
+returns-clause-some g c = λ is. subst (IsKind c.layout.result c.args.number) is c.of.ensures
+
+pub returns-clause-owed : goal.returns-clause-owed
+returns-clause-owed g c = λ k is. absurd (subst (IsKind c.layout.result c.args.number) is c.of.ensures)
