@@ -170,6 +170,27 @@ impl<K: Station + Drop + Send> PoolOf<K> {
         }
     }
 
+    // Works at the queue that is in hand already, or at the one that was announced first, and gives its processor way where there is
+    // neither. Answers the queue that made room, if one had to.
+    fn serve_next<R: Wait, G: Gate>(
+        &self,
+        rt: &R,
+        caller: &mut Caller,
+        next: Option<u32>,
+        gate: &G,
+    ) -> Option<u32>
+        requires caller { IsCallerOf self.now.ready caller.old }
+        requires next { IfSome next (λ q. q < length self.now.workers) }
+        ensures next { IfSome result (λ q. q < length self.now.workers) }
+        ensures goes_on { GoesOnFrom caller.old caller.new }
+    {
+        let Some(turn) = self.next_turn(rt, caller, next) else {
+            thread::yield_now();
+            return None;
+        };
+        self.work_share(rt, caller, turn, gate)
+    }
+
     // Serves what was announced until each queue has run its stop item. A queue is counted once, as it is looked at for the first
     // time after its stop item ran: what says that it was counted lies in its slot with it. A queue that made room is looked at
     // before the others, and announced again where all have stopped.
@@ -185,10 +206,7 @@ impl<K: Station + Drop + Send> PoolOf<K> {
                 }
                 return;
             }
-            match self.next_turn(rt, caller, next) {
-                Some(turn) => next = self.work_share(rt, caller, turn, gate),
-                None => thread::yield_now(),
-            }
+            next = self.serve_next(rt, caller, next, gate);
         }
     }
 
