@@ -1,5 +1,6 @@
 //! Checkers of recorded histories and traces: each cause, and what a report says.
 use crate::expect::expect_same;
+use std::alloc::Global;
 use std::process::Abort;
 use wq_check::EventError::{NoItem, NoSeat, NotAllowed};
 use wq_check::{
@@ -192,41 +193,68 @@ const COUNTS: Counts = Counts {
     most_waiting: 2,
 };
 
+/// What is told next, what is wrong with its last event, what the report then says, and what is left at these places.
+type Stage = (
+    &'static [Event],
+    Option<EventError>,
+    Report,
+    &'static [(usize, Option<u32>)],
+);
+
+/// The stages one after another, of one checker.
+fn check_stages<R: Abort>(rt: &R, alloc: Global, stages: &[Stage]) {
+    let layout = Layout::new(2, 1, 2).expect(rt, "a layout");
+    let mut checker = Checker::new(alloc, layout).expect(rt, "a checker");
+    for &(history, error, report, left) in stages {
+        check(rt, &mut checker, history, error);
+        expect_same(rt, checker.report(), report);
+        check_left(rt, &checker, left);
+    }
+}
+
+fn check_left<R: Abort>(rt: &R, checker: &Checker, left: &[(usize, Option<u32>)]) {
+    for &(place, number) in left {
+        expect_same(rt, (place, checker.left_at(place)), (place, number));
+    }
+}
+
+const THREE_LEFT: Report = Report {
+    counts: COUNTS,
+    left: 3,
+    closed: true,
+    complete: false,
+};
+
+const ALL_ENDED: Report = Report {
+    counts: Counts {
+        events: 16,
+        accepted: 3,
+        chained: 1,
+        executed: 3,
+        busy: 2,
+        refused: 1,
+        most_waiting: 2,
+    },
+    left: 0,
+    closed: true,
+    complete: true,
+};
+
 #[test]
 fn report_of_a_history(rt: HostRuntime) {
-    let layout = Layout::new(2, 1, 2).expect(&rt, "a layout");
-    let mut checker = Checker::new(rt.alloc(), layout).expect(&rt, "a checker");
-    check(&rt, &mut checker, CLOSED_WHILE_ONE_RUNS, None);
-    check(
-        &rt,
-        &mut checker,
+    check_stages(&rt, rt.alloc(), HISTORY);
+}
+
+const HISTORY: &[Stage] = &[
+    (CLOSED_WHILE_ONE_RUNS, None, THREE_LEFT, &[]),
+    (
         &[Begin(2)],
         Some(NotAllowed(Cause::Runs(0))),
-    );
-    let report = Report {
-        counts: COUNTS,
-        left: 3,
-        closed: true,
-        complete: false,
-    };
-    expect_same(&rt, checker.report(), report);
-    for (place, number) in [(0, Some(0)), (1, Some(2)), (2, Some(1)), (3, None)] {
-        expect_same(&rt, (place, checker.left_at(place)), (place, number));
-    }
-    check(&rt, &mut checker, THE_REST, None);
-    let done = Report {
-        counts: Counts {
-            events: 16,
-            executed: 3,
-            ..COUNTS
-        },
-        left: 0,
-        closed: true,
-        complete: true,
-    };
-    expect_same(&rt, checker.report(), done);
-    expect_same(&rt, checker.left_at(0), None);
-}
+        THREE_LEFT,
+        &[(0, Some(0)), (1, Some(2)), (2, Some(1)), (3, None)],
+    ),
+    (THE_REST, None, ALL_ENDED, &[(0, None)]),
+];
 
 const DRAINED: &[Event] = &[
     HELD,
@@ -242,47 +270,61 @@ const RESUMED_AND_CLOSED: &[Event] = &[Resume, Hold(1, 1), Close, Back(1, 1, Why
 
 #[test]
 fn report_of_a_drain(rt: HostRuntime) {
-    let layout = Layout::new(2, 1, 2).expect(&rt, "a layout");
-    let mut checker = Checker::new(rt.alloc(), layout).expect(&rt, "a checker");
-    let report = Report {
-        counts: Counts {
-            events: 7,
-            accepted: 1,
-            chained: 0,
-            executed: 1,
-            busy: 0,
-            refused: 1,
-            most_waiting: 1,
-        },
-        left: 0,
-        closed: false,
-        complete: false,
-    };
-    check(&rt, &mut checker, DRAINED, None);
-    expect_same(&rt, checker.report(), report);
-    check(&rt, &mut checker, RESUMED_AND_CLOSED, None);
-    let done = Report {
-        counts: Counts {
-            events: 11,
-            refused: 2,
-            ..report.counts
-        },
-        closed: true,
-        complete: true,
-        ..report
-    };
-    expect_same(&rt, checker.report(), done);
+    check_stages(&rt, rt.alloc(), DRAIN);
 }
+
+const DRAIN: &[Stage] = &[
+    (
+        DRAINED,
+        None,
+        Report {
+            counts: Counts {
+                events: 7,
+                accepted: 1,
+                chained: 0,
+                executed: 1,
+                busy: 0,
+                refused: 1,
+                most_waiting: 1,
+            },
+            left: 0,
+            closed: false,
+            complete: false,
+        },
+        &[],
+    ),
+    (
+        RESUMED_AND_CLOSED,
+        None,
+        Report {
+            counts: Counts {
+                events: 11,
+                accepted: 1,
+                chained: 0,
+                executed: 1,
+                busy: 0,
+                refused: 2,
+                most_waiting: 1,
+            },
+            left: 0,
+            closed: true,
+            complete: true,
+        },
+        &[],
+    ),
+];
+
+const WORDS: &[(Cause, &str)] = &[
+    (Cause::Draining, "draining"),
+    (Cause::NotDraining, "not draining"),
+    (Cause::NeverDrained, "never drained"),
+    (Cause::Open, "open"),
+    (Cause::Runs(7), "runs 7"),
+];
 
 #[test]
 fn words_of_causes(rt: HostRuntime) {
-    for (cause, words) in [
-        (Cause::Draining, "draining"),
-        (Cause::NotDraining, "not draining"),
-        (Cause::NeverDrained, "never drained"),
-        (Cause::Open, "open"),
-        (Cause::Runs(7), "runs 7"),
-    ] {
+    for &(cause, words) in WORDS {
         let text = format!(in rt.alloc(); "{cause}").expect(&rt, "memory");
         expect_same(&rt, text.as_str(), words);
     }
@@ -408,7 +450,7 @@ fn report_of_a_trace(rt: HostRuntime) {
         most_waiting: 2,
     };
     expect_same(&rt, checker.report(), TraceReport { counts, left: 3 });
-    for (place, item) in [(0, Some(1)), (1, Some(1)), (2, Some(0)), (3, None)] {
+    for &(place, item) in &[(0, Some(1)), (1, Some(1)), (2, Some(0)), (3, None)] {
         expect_same(&rt, (place, checker.left_at(place)), (place, item));
     }
     check_marks(&rt, &mut checker, &[End(1), Start(1), End(1)], None);

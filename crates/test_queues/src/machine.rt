@@ -165,7 +165,7 @@ fn check_stops_of<R: Abort + AllocGlobal>(rt: &R, text: &str, stopped: Seat) {
 
 /// Each seat stops so.
 fn check_stops<R: Abort + AllocGlobal>(rt: &R, text: &str) {
-    for stopped in [S0, S1, O] {
+    for &stopped in &[S0, S1, O] {
         check_stops_of(rt, text, stopped);
     }
 }

@@ -32,21 +32,25 @@ fn layouts(rt: HostRuntime) {
     expect_same(&rt, MOST_ITEMS, 65_536);
 }
 
+/// Words, and the heads that they stand for, if any.
+const CODES: &[(u64, Option<Head>)] = &[
+    (0, Some(Head::Empty)),
+    (1, Some(Head::Item(0))),
+    (4113, Some(Head::Item(4112))),
+    (1 << 32, Some(Head::Item(u32::MAX))),
+    (u64::MAX, Some(Head::Closed)),
+    (u64::MAX - 2, Some(Head::Draining)),
+    ((1 << 32) + 1, None),
+    (u64::MAX - 3, None),
+];
+
 #[test]
 fn head_codes(rt: HostRuntime) {
-    for &(word, head) in &[
-        (0, Head::Empty),
-        (1, Head::Item(0)),
-        (4113, Head::Item(4112)),
-        (1 << 32, Head::Item(u32::MAX)),
-        (u64::MAX, Head::Closed),
-        (u64::MAX - 2, Head::Draining),
-    ] {
-        expect_same(&rt, (word, Head::from_word(word)), (word, Some(head)));
-        expect_same(&rt, (head, head.to_word()), (head, word));
-    }
-    for word in [(1 << 32) + 1, u64::MAX - 3] {
-        expect_same(&rt, (word, Head::from_word(word)), (word, None));
+    for &(word, head) in CODES {
+        expect_same(&rt, (word, Head::from_word(word)), (word, head));
+        if let Some(head) = head {
+            expect_same(&rt, (head, head.to_word()), (head, word));
+        }
     }
     expect_same(&rt, BUSY, u64::MAX - 1);
     expect_same(&rt, Head::from_word(BUSY), Some(Head::Empty));

@@ -48,7 +48,7 @@ fn executed_and_refused_values_are_dropped_once(rt: HostRuntime) {
     expect_same(&rt, (answer, alive(&shared)), (Some(Answer::Pending), 4));
     drop(back);
     expect_same(&rt, alive(&shared), 3);
-    for left in [2usize, 1, 0] {
+    for &left in &[2usize, 1, 0] {
         let executed = execute_one(&mut owner);
         expect_same(&rt, alive(&shared), left.wrapping_add(1));
         drop(executed);
@@ -97,7 +97,7 @@ fn sender_stops_and_its_values_are_executed(rt: HostRuntime) {
     queue_each(&rt, &mut sender, 4, &shared);
     drop(sender);
     expect_same(&rt, take(&mut owner), Some(4));
-    for left in [3usize, 2, 1, 0] {
+    for &left in &[3usize, 2, 1, 0] {
         let begun = begin(&mut owner);
         expect_same(
             &rt,

@@ -91,7 +91,7 @@ fn refused_flush_does_not_wait(rt: HostRuntime) {
     expect_same(&rt, queued, (Some(QUEUED), None));
     expect_refused(&rt, &mut sender, Answer::Pending);
     expect_same(&rt, drain(&mut owner), Some(3));
-    for executed in [(5u32, None), (4, None), (0, Some(70))] {
+    for &executed in &[(5u32, None), (4, None), (0, Some(70))] {
         expect_same(&rt, execute_one(&mut owner), Some(executed));
     }
     expect_refused(&rt, &mut sender, Answer::Draining);

@@ -74,7 +74,7 @@ impl<'a, R: Abort> Restless<'a, R> {
     {
         let mut follow = ValueFollow::new();
         self.asked = number;
-        for row in [0u32, 50] {
+        for &row in &[0u32, 50] {
             let value = Share {
                 number,
                 held: Arc::try_clone(&self.shared).ok(),

@@ -11,7 +11,7 @@ use wq_worker::Ran;
 /// A work that asks for three pairs, of which the first's item is pending and the second's number is no item.
 fn three_pairs<R: Abort>(rt: &R, shared: &Arc<u32>) -> ValueFollow<Arc<u32>> {
     let mut asks = ValueFollow::new();
-    for item in [1u32, 9, 4] {
+    for &item in &[1u32, 9, 4] {
         assert!(rt; asks.push(item, share(rt, shared)).is_ok());
     }
     asks
