@@ -5,5 +5,6 @@ mod holding;
 mod pairs;
 pub(crate) mod reading;
 mod spins;
+mod steps;
 mod stopped;
 mod threads;

@@ -1,67 +1,67 @@
 //! The owner's calls in a drain, and after it.
-use super::super::reading::{begin, chain, close, drain, end, execute_one, resume, take};
-use super::queue;
-use crate::expect::expect_same;
-use crate::seats::{FIRST, QUEUED, WAKES, queue_once, seats};
-use std::process::Abort;
-use wq_live::{Answer, Done, Owner};
+use super::super::steps::Act::{Begin, Close, Drain, End, Execute, Take};
+use super::super::steps::Ask::{Queue, QueueWait};
+use super::super::steps::Step::{self, Ask, Chain, Done, Own, Phase, Resume};
+use super::super::steps::play_new;
+use crate::seats::{FIRST, QUEUED, WAKES};
+use wq_live::Answer;
 
-/// Whether the queue drains, and whether its drain has run out.
-fn phase(owner: &Owner) -> (bool, bool) {
-    (owner.is_draining(), owner.drained())
-}
-
-/// Chains an item to the execution of item 0. The drain does not end before both have ended.
-fn chain_within_the_drain<R: Abort>(rt: &R, owner: &mut Owner) {
-    expect_same(rt, phase(owner), (true, false));
-    expect_same(rt, begin(owner), Some(0));
-    expect_same(rt, phase(owner), (true, false));
-    expect_same(rt, chain(owner, 2), Some(QUEUED));
-    expect_same(rt, chain(owner, 2), Some(Answer::Pending));
-    expect_same(rt, resume(owner), false);
-    expect_same(rt, end(owner), Some(0));
-    expect_same(rt, phase(owner), (true, false));
-    expect_same(rt, resume(owner), false);
-    expect_same(rt, execute_one(owner), Some(2));
-    expect_same(rt, phase(owner), (true, true));
-}
+/// An item is chained to the execution of item 0. The drain does not end before both have ended.
+const DRAINING: &[Step] = &[
+    Ask(0, Queue(0), WAKES),
+    Resume(false),
+    Own(Drain, Some(1)),
+    Own(Drain, None),
+    Own(Take, None),
+    Phase(false, true, false),
+    Own(Begin, Some(0)),
+    Phase(false, true, false),
+    Chain(2, Some(QUEUED)),
+    Chain(2, Some(Answer::Pending)),
+    Resume(false),
+    Own(End, Some(0)),
+    Phase(false, true, false),
+    Resume(false),
+    Own(Execute, Some(2)),
+    Phase(false, true, true),
+    Done(None),
+    Resume(true),
+    Phase(false, false, false),
+    Ask(1, QueueWait(2), FIRST),
+    Ask(0, Queue(0), QUEUED),
+    Own(Drain, Some(2)),
+];
 
 #[test]
 fn drain_ends_once_all_has_ended(rt: HostRuntime) {
-    let (mut owner, mut first, mut second) = seats(&rt, rt.alloc(), 4, 2);
-    expect_same(&rt, queue_once(&mut first, 0), Some(WAKES));
-    expect_same(&rt, resume(&mut owner), false);
-    expect_same(&rt, drain(&mut owner), Some(1));
-    expect_same(&rt, drain(&mut owner), None);
-    expect_same(&rt, take(&mut owner), None);
-    chain_within_the_drain(&rt, &mut owner);
-    expect_same(&rt, owner.done(), None);
-    expect_same(&rt, resume(&mut owner), true);
-    expect_same(&rt, phase(&owner), (false, false));
-    expect_same(&rt, queue(&rt, &mut second, 2), Some(FIRST));
-    expect_same(&rt, queue_once(&mut first, 0), Some(QUEUED));
-    expect_same(&rt, drain(&mut owner), Some(2));
+    play_new(&rt, rt.alloc(), DRAINING);
 }
+
+const EMPTY: &[Step] = &[
+    Own(Drain, Some(0)),
+    Phase(false, true, true),
+    Resume(true),
+    Ask(0, Queue(1), FIRST),
+    Own(Execute, Some(1)),
+];
 
 #[test]
 fn empty_drain_ends_at_once(rt: HostRuntime) {
-    let (mut owner, mut first, _second) = seats(&rt, rt.alloc(), 4, 2);
-    expect_same(&rt, drain(&mut owner), Some(0));
-    expect_same(&rt, phase(&owner), (true, true));
-    expect_same(&rt, resume(&mut owner), true);
-    expect_same(&rt, queue_once(&mut first, 1), Some(FIRST));
-    expect_same(&rt, execute_one(&mut owner), Some(1));
+    play_new(&rt, rt.alloc(), EMPTY);
 }
+
+const CLOSING: &[Step] = &[
+    Ask(0, Queue(0), WAKES),
+    Own(Drain, Some(1)),
+    Own(Close, Some(0)),
+    Phase(true, false, false),
+    Ask(1, Queue(1), Answer::Closed),
+    Own(Execute, Some(0)),
+    Resume(false),
+    Done(Some(1)),
+];
 
 #[test]
 fn close_ends_a_drain(rt: HostRuntime) {
-    let (mut owner, mut first, mut second) = seats(&rt, rt.alloc(), 4, 2);
-    expect_same(&rt, queue_once(&mut first, 0), Some(WAKES));
-    expect_same(&rt, drain(&mut owner), Some(1));
-    expect_same(&rt, close(&mut owner), Some(0));
-    expect_same(&rt, phase(&owner), (false, false));
-    expect_same(&rt, queue_once(&mut second, 1), Some(Answer::Closed));
-    expect_same(&rt, execute_one(&mut owner), Some(0));
-    expect_same(&rt, resume(&mut owner), false);
-    expect_same(&rt, owner.done(), Some(Done { ended: 1 }));
+    play_new(&rt, rt.alloc(), CLOSING);
 }

@@ -1,91 +1,74 @@
 //! A seat that stops within a drain: a sender that holds an item, an owner that is gone, and a thread that waits until the drain
 //! of the others has come to its end.
-use super::super::calls::post_or_give_back;
 use super::super::reading::{begin, chain, close, drain, end, execute_one, resume};
-use super::{execute_all, hold, queue_beside, queue_in_steps, queue_last};
+use super::super::steps::Act::{Begin, Close, Drain, Execute};
+use super::super::steps::Ask::{FlushWait, Post, Queue, QueueWait};
+use super::super::steps::Step::{self, Ask, Done as Ends, Own, Resume};
+use super::super::steps::{Asked, ask_all, new_seats, play};
+use super::{Others, check_stop, hold, queue_and_execute, queue_beside_owner};
 use crate::expect::expect_same;
 use crate::latch::Latch;
 use crate::seats::{FIRST, QUEUED, WAKES, queue_once, seats};
 use std::process::Abort;
-use std::sync::Wait;
-use std::thread::{Threads, join};
-use wq_live::{Answer, Done, Owner, Posted, Sender};
+use std::thread::Threads;
+use wq_live::{Answer, Done, Owner, Sender};
 
-const DRAINING: Option<Answer> = Some(Answer::Draining);
+/// Another sender holds item 2 when the drain begins.
+const HELD: &[Step] = &[Ask(0, Queue(0), WAKES), Own(Drain, Some(1))];
+
+/// It is gone within the drain.
+const GONE: &[Step] = &[
+    Ask(0, Queue(2), Answer::Pending),
+    Ask(0, Queue(1), Answer::Draining),
+    Resume(false),
+    Own(Execute, Some(0)),
+    Resume(true),
+    Ask(0, Queue(2), Answer::Pending),
+    Ask(0, Queue(1), FIRST),
+    Own(Execute, Some(1)),
+    Own(Close, Some(0)),
+    Ends(Some(2)),
+];
 
 /// A sender that holds an item when the drain begins, and is gone within it, stands in the way of no resume. Its item stays
 /// pending.
 #[test]
 fn sender_stops_with_an_item(rt: HostRuntime) {
-    let (mut owner, mut first, mut second) = seats(&rt, rt.alloc(), 4, 1);
-    assert!(rt; hold(&mut first, 2));
-    expect_same(&rt, queue_once(&mut second, 0), Some(WAKES));
-    expect_same(&rt, drain(&mut owner), Some(1));
-    drop(first);
-    expect_same(&rt, queue_once(&mut second, 2), Some(Answer::Pending));
-    expect_same(&rt, queue_once(&mut second, 1), DRAINING);
-    expect_same(&rt, resume(&mut owner), false);
-    expect_same(&rt, execute_one(&mut owner), Some(0));
-    expect_same(&rt, resume(&mut owner), true);
-    expect_same(&rt, queue_once(&mut second, 2), Some(Answer::Pending));
-    expect_same(&rt, queue_once(&mut second, 1), Some(FIRST));
-    expect_same(&rt, execute_one(&mut owner), Some(1));
-    expect_same(&rt, close(&mut owner), Some(0));
-    expect_same(&rt, owner.done(), Some(Done { ended: 2 }));
+    let (mut owner, mut senders) = new_seats(&rt, rt.alloc(), 1);
+    let mut holder = senders.pop().expect(&rt, "a sender");
+    assert!(rt; hold(&mut holder, 2));
+    play(&rt, &mut owner, &mut senders, HELD);
+    drop(holder);
+    play(&rt, &mut owner, &mut senders, GONE);
 }
 
-/// Queues an item, and then a barrier, in calls that may wait.
-fn queue_and_flush<R: Wait>(rt: &R, sender: &mut Sender, item: u32) -> [Option<Answer>; 2] {
-    let mut answers = [None; 2];
-    if item < sender.layout().items {
-        answers[0] = Some(sender.queue(rt, item));
-    }
-    if 0 < sender.layout().barriers {
-        answers[1] = Some(sender.flush(rt, 0));
-    }
-    answers
-}
+/// An owner has begun the first of two.
+const BEGUN: &[Step] = &[
+    Ask(0, Queue(0), WAKES),
+    Ask(0, Queue(1), QUEUED),
+    Own(Drain, Some(2)),
+    Own(Begin, Some(0)),
+];
+
+/// It is gone.
+const LEFT: &[Asked] = &[
+    (0, Queue(0), Answer::Draining),
+    (1, Queue(1), Answer::Pending),
+    (1, QueueWait(2), Answer::Draining),
+    (1, FlushWait(0), Answer::Draining),
+    (0, Post(3), Answer::Draining),
+];
 
 /// An owner that is gone within a drain leaves the queue draining for ever: each queueing is answered so, also those that may
 /// wait, and what it had taken stays pending.
 #[test]
 fn owner_stops_with_a_batch(rt: HostRuntime) {
-    let (mut owner, mut first, mut second) = seats(&rt, rt.alloc(), 4, 1);
-    expect_same(&rt, queue_once(&mut first, 0), Some(WAKES));
-    expect_same(&rt, queue_once(&mut first, 1), Some(QUEUED));
-    expect_same(&rt, drain(&mut owner), Some(2));
-    expect_same(&rt, begin(&mut owner), Some(0));
+    let (mut owner, mut senders) = new_seats(&rt, rt.alloc(), 1);
+    play(&rt, &mut owner, &mut senders, BEGUN);
     drop(owner);
     for _ in 0..2u32 {
-        expect_same(&rt, queue_once(&mut first, 0), DRAINING);
-        expect_same(&rt, queue_once(&mut second, 1), Some(Answer::Pending));
-        expect_same(
-            &rt,
-            queue_and_flush(&rt, &mut second, 2),
-            [DRAINING, DRAINING],
-        );
-        expect_same(
-            &rt,
-            post_or_give_back(&mut first, 3),
-            Some(Posted::Draining),
-        );
+        ask_all(&rt, &mut senders, LEFT);
     }
-}
-
-/// What the others come to while a sender is stopped.
-#[derive(Clone, Copy, Debug, PartialEq, Eq)]
-struct Others {
-    /// How many the drain took.
-    drained: Option<u32>,
-    /// What the queueing of item 0 is answered within the drain, and after it.
-    within: Option<Answer>,
-    after: Option<Answer>,
-    /// How many items of its own the second sender queues after the drain.
-    queued: u32,
-    executed: u32,
-    /// How many a second drain took, and that it is at its end.
-    again: Option<u32>,
-    is_drained: bool,
 }
 
 /// Executes what waits, and ends the drain.
@@ -101,77 +84,78 @@ fn end_drain<R: Abort>(rt: &R, owner: &mut Owner) -> u32 {
     executed
 }
 
-/// Once a sender has stopped, the owner drains what was queued and resumes, the other queues item 0 and its own items beside the
-/// owner, who executes them and drains again.
-fn drain_beside<R: Abort + Threads + Sync>(
+/// The owner drains what was queued and resumes, the other queues item 0 and its own items beside the owner, who executes them and
+/// drains again.
+pub(super) fn drain_all<R: Abort + Threads + Sync>(
     rt: &R,
     owner: &mut Owner,
     sender: &mut Sender,
-    latch: &Latch,
-) -> Option<Others> {
-    if !latch.meet() {
-        return None;
-    }
+) -> Others {
     let drained = drain(owner);
     let within = queue_once(sender, 0);
     let before = end_drain(rt, owner);
-    let after = queue_once(sender, 0);
-    let ended = Latch::new();
-    let (queued, executed) = join(
-        rt,
-        || queue_last(sender, 8, 72, &ended),
-        || execute_all(owner, &ended),
-    );
-    let others = Others {
+    let first = queue_once(sender, 0);
+    let (queued, executed) = queue_and_execute(rt, owner, sender);
+    let left = drain(owner);
+    Others {
         drained,
         within,
-        after,
+        first,
         queued,
         executed: before.saturating_add(executed),
-        again: drain(owner),
+        left,
+        ended: None,
         is_drained: owner.drained(),
-    };
-    latch.open();
-    Some(others)
+    }
 }
+
+/// How many the drain takes where a sender stops at each place, what the other is answered within it and after it, and what the sender
+/// is answered of its first two. The queue drains for its third.
+const PLACES: &[(u32, u32, Answer, Answer, Answer, Answer)] = &[
+    (
+        0,
+        0,
+        Answer::Draining,
+        FIRST,
+        Answer::Draining,
+        Answer::Draining,
+    ),
+    (
+        1,
+        0,
+        Answer::Pending,
+        Answer::Pending,
+        Answer::Draining,
+        Answer::Draining,
+    ),
+    (2, 1, Answer::Pending, FIRST, WAKES, Answer::Draining),
+    (3, 2, Answer::Pending, FIRST, WAKES, QUEUED),
+];
 
 /// A sender stops at each place: before its hold, with an item held, with a push that nobody was woken for, and between two
 /// queueings. A whole drain of the others comes to its end before it goes on, and it finds the queue in a second drain.
 #[test]
 fn others_drain_while_a_sender_stops(rt: HostRuntime) {
-    let draining = Answer::Draining;
-    let rows = [
-        (0, draining, FIRST, [draining, draining, draining]),
-        (0, Answer::Pending, Answer::Pending, [draining; 3]),
-        (1, Answer::Pending, FIRST, [WAKES, draining, draining]),
-        (2, Answer::Pending, FIRST, [WAKES, QUEUED, draining]),
-    ];
-    for (place, (drained, within, after, answers)) in (0..4u32).zip(rows) {
-        let (mut owner, mut stopped, mut other) = seats(&rt, rt.alloc(), 72, 1);
-        let latch = Latch::new();
-        let (others, said) = join(
-            &rt,
-            || drain_beside(&rt, &mut owner, &mut other, &latch),
-            || queue_in_steps(&mut stopped, place, &latch),
-        );
+    for &(place, drained, within, after, one, two) in PLACES {
         let own = if after == FIRST { 65u32 } else { 64 };
-        let want = Others {
+        let others = Others {
             drained: Some(drained),
             within: Some(within),
-            after: Some(after),
+            first: Some(after),
             queued: 64,
             executed: own.saturating_add(drained),
-            again: Some(0),
+            left: Some(0),
+            ended: None,
             is_drained: true,
         };
-        expect_same(&rt, (place, others), (place, Some(want)));
-        expect_same(&rt, (place, said), (place, Some(answers)));
+        let answers = [one, two, Answer::Draining];
+        check_stop(&rt, rt.alloc(), place, true, (others, answers));
     }
 }
 
 /// Drains what was queued and begins it, stops, and then chains an item, executes the rest and resumes. How many numbers those
 /// are.
-fn drain_and_stop<R: Abort>(rt: &R, owner: &mut Owner, latch: &Latch) -> Option<u32> {
+pub(super) fn drain_and_stop<R: Abort>(rt: &R, owner: &mut Owner, latch: &Latch) -> Option<u32> {
     expect_same(rt, drain(owner), Some(2));
     let number = begin(owner);
     if number != Some(0) || !latch.stop() {
@@ -187,14 +171,7 @@ fn drain_and_stop<R: Abort>(rt: &R, owner: &mut Owner, latch: &Latch) -> Option<
 #[test]
 fn senders_end_while_the_owner_stops(rt: HostRuntime) {
     let (mut owner, mut first, mut second) = seats(&rt, rt.alloc(), 72, 1);
-    expect_same(&rt, queue_once(&mut first, 0), Some(WAKES));
-    expect_same(&rt, queue_once(&mut second, 1), Some(QUEUED));
-    let latch = Latch::new();
-    let (answers, executed) = join(
-        &rt,
-        || queue_beside(&rt, &mut first, &mut second, &latch),
-        || drain_and_stop(&rt, &mut owner, &latch),
-    );
+    let (answers, executed) = queue_beside_owner(&rt, &mut owner, &mut first, &mut second, true);
     expect_same(
         &rt,
         answers,
