@@ -12,138 +12,204 @@ use wq_live::{Answer, Owner, Sender};
 /// Items of a queue of 8, each with its delay. They go out by tick, and at one tick by arming: 5, 2, 0, 7.
 const LATE: &[(u32, u64)] = &[(2, 3), (5, 1), (0, 3), (7, 9)];
 
+/// A call of the table, of its queue's other sender or of the owner, with what it answers.
+#[derive(Clone, Copy)]
+enum Step {
+    Arm(u32, u64, Armed),
+    Modify(u32, u64, Modified),
+    Cancel(u32, bool),
+    /// How many an advance to this tick pushes, refuses and leaves waiting.
+    Advance(u64, (u32, u32, u32)),
+    /// What is on the table, among all items.
+    OnTable([bool; 8]),
+    /// What is due at this tick.
+    Due(u64, [u32; 4]),
+    Queue(u32, Answer),
+    Resume(bool),
+    Close(Option<u32>),
+    Execute(Option<u32>),
+    /// The table has the late items, and they are pending.
+    StillThere,
+}
+
 /// Puts the items on the table, and begins a drain of nothing.
 fn arm_and_drain<R: Abort>(rt: &R, delay: &mut Delay, owner: &mut Owner) {
     for &(item, ticks) in LATE {
-        expect_same(
-            rt,
-            (item, arm(delay, item, ticks)),
-            (item, Some(Armed::OnTable)),
-        );
+        let armed = arm(delay, item, ticks);
+        expect_same(rt, (item, armed), (item, Some(Armed::OnTable)));
     }
     expect_same(rt, drain(owner), Some(0));
 }
 
-/// What is on the table, among all items.
-fn on_table(delay: &Delay) -> [Option<bool>; 8] {
-    [
-        has(delay, 0),
-        has(delay, 1),
-        has(delay, 2),
-        has(delay, 3),
-        has(delay, 4),
-        has(delay, 5),
-        has(delay, 6),
-        has(delay, 7),
-    ]
+/// These items are on the table, and no others.
+fn check_table<R: Abort>(rt: &R, delay: &Delay, all: &[bool; 8]) {
+    for (item, is_on) in (0..8u32).zip(all) {
+        expect_same(rt, (item, has(delay, item)), (item, Some(*is_on)));
+    }
 }
 
-const YES: Option<bool> = Some(true);
-
-const NO: Option<bool> = Some(false);
-
-/// The table has the late items, and they are pending.
 fn check_still_there<R: Abort>(rt: &R, delay: &Delay, sender: &mut Sender) {
-    expect_same(rt, on_table(delay), [YES, NO, YES, NO, NO, YES, NO, YES]);
+    check_table(
+        rt,
+        delay,
+        &[true, false, true, false, false, true, false, true],
+    );
     expect_same(rt, delay.len(), 4);
     for &(item, _) in LATE {
-        expect_same(
-            rt,
-            (item, queue_once(sender, item)),
-            (item, Some(Answer::Pending)),
-        );
+        let answer = queue_once(sender, item);
+        expect_same(rt, (item, answer), (item, Some(Answer::Pending)));
     }
 }
 
-/// What the owner executes, in order.
-fn check_order<R: Abort>(rt: &R, owner: &mut Owner, order: &[u32]) {
-    for &item in order {
-        expect_same(rt, execute_one(owner), Some(item));
+fn check_due<R: Abort>(rt: &R, delay: &Delay, tick: u64, wanted: &[u32]) {
+    let due = delay.due_list(tick).expect(rt, "memory");
+    expect_same(rt, due.as_slice(), wanted);
+}
+
+/// A step of the table.
+fn step_table<R: Abort>(rt: &R, delay: &mut Delay, place: usize, step: Step) {
+    match step {
+        Step::Arm(item, ticks, armed) => {
+            expect_same(rt, (place, arm(delay, item, ticks)), (place, Some(armed)));
+        }
+        Step::Modify(item, ticks, modified) => {
+            let answer = modify(delay, item, ticks);
+            expect_same(rt, (place, answer), (place, Some(modified)));
+        }
+        Step::Cancel(item, was_on) => {
+            expect_same(rt, (place, cancel(delay, item)), (place, Some(was_on)));
+        }
+        Step::Advance(now, said) => {
+            expect_same(rt, (place, advance(delay, now)), (place, Some(said)));
+        }
+        Step::OnTable(all) => check_table(rt, delay, &all),
+        Step::Due(tick, wanted) => check_due(rt, delay, tick, &wanted),
+        _ => {}
     }
-    expect_same(rt, execute_one(owner), None);
+}
+
+/// Makes the steps on a queue that drains with the late items on its table, and looks whether each answers what is said of it.
+fn play<R: Abort>(rt: &R, alloc: Global, steps: &[Step]) {
+    let (mut owner, mut sender, mut delay) = delayed(rt, alloc, 8, 0);
+    arm_and_drain(rt, &mut delay, &mut owner);
+    for (place, &step) in steps.iter().enumerate() {
+        match step {
+            Step::Queue(item, answer) => {
+                let queued = queue_once(&mut sender, item);
+                expect_same(rt, (place, queued), (place, Some(answer)));
+            }
+            Step::Resume(ends) => expect_same(rt, (place, resume(&mut owner)), (place, ends)),
+            Step::Close(count) => expect_same(rt, (place, close(&mut owner)), (place, count)),
+            Step::Execute(number) => {
+                expect_same(rt, (place, execute_one(&mut owner)), (place, number));
+            }
+            Step::StillThere => check_still_there(rt, &delay, &mut sender),
+            _ => step_table(rt, &mut delay, place, step),
+        }
+    }
 }
 
 /// An advance within a drain posts nothing and drops nothing, however often it is made. After the resume what is left goes out
 /// first, in its order, before what is due later.
 #[test]
 fn advance_goes_on_after_the_resume(rt: HostRuntime) {
-    let (mut owner, mut sender, mut delay) = delayed(&rt, rt.alloc(), 8, 0);
-    arm_and_drain(&rt, &mut delay, &mut owner);
-    for now in [0, 2, 4, 300, 300] {
-        let said = advance(&mut delay, now);
-        expect_same(&rt, (now, said), (now, Some((0, 0, 4))));
-        check_still_there(&rt, &delay, &mut sender);
-    }
-    expect_same(&rt, resume(&mut owner), true);
-    expect_same(&rt, arm(&mut delay, 1, 1), Some(Armed::OnTable));
-    expect_same(&rt, queue_once(&mut sender, 3), Some(FIRST));
-    expect_same(&rt, advance(&mut delay, 301), Some((5, 0, 0)));
-    expect_same(&rt, on_table(&delay), [NO; 8]);
-    check_order(&rt, &mut owner, &[3, 5, 2, 0, 7, 1]);
+    play(&rt, rt.alloc(), GOES_ON);
 }
+
+const GOES_ON: &[Step] = &[
+    Step::Advance(0, (0, 0, 4)),
+    Step::StillThere,
+    Step::Advance(2, (0, 0, 4)),
+    Step::StillThere,
+    Step::Advance(4, (0, 0, 4)),
+    Step::StillThere,
+    Step::Advance(300, (0, 0, 4)),
+    Step::StillThere,
+    Step::Advance(300, (0, 0, 4)),
+    Step::StillThere,
+    Step::Resume(true),
+    Step::Arm(1, 1, Armed::OnTable),
+    Step::Queue(3, FIRST),
+    Step::Advance(301, (5, 0, 0)),
+    Step::OnTable([false; 8]),
+    Step::Execute(Some(3)),
+    Step::Execute(Some(5)),
+    Step::Execute(Some(2)),
+    Step::Execute(Some(0)),
+    Step::Execute(Some(7)),
+    Step::Execute(Some(1)),
+    Step::Execute(None),
+];
 
 /// A close that ends a drain has what was left given back, as on any closed queue.
 #[test]
 fn advance_gives_back_after_a_close(rt: HostRuntime) {
-    let (mut owner, mut sender, mut delay) = delayed(&rt, rt.alloc(), 8, 0);
-    arm_and_drain(&rt, &mut delay, &mut owner);
-    expect_same(&rt, advance(&mut delay, 3), Some((0, 0, 4)));
-    expect_same(&rt, close(&mut owner), Some(0));
-    expect_same(&rt, advance(&mut delay, 3), Some((0, 3, 1)));
-    expect_same(&rt, on_table(&delay), [NO, NO, NO, NO, NO, NO, NO, YES]);
-    expect_same(&rt, queue_once(&mut sender, 0), Some(Answer::Closed));
-    expect_same(&rt, queue_once(&mut sender, 7), Some(Answer::Pending));
+    play(&rt, rt.alloc(), GIVES_BACK);
 }
 
-/// What would be due at once is answered by the drain, or by what is pending, and changes nothing.
-fn check_refused<R: Abort>(rt: &R, delay: &mut Delay, sender: &mut Sender) {
-    expect_same(rt, arm(delay, 1, 0), Some(Armed::Draining));
-    expect_same(rt, arm(delay, 2, 0), Some(Armed::Pending));
-    expect_same(rt, modify(delay, 1, 0), Some(Modified::Draining));
-    expect_same(rt, modify(delay, 0, 0), Some(Modified::Draining));
-    expect_same(rt, queue_once(sender, 1), Some(Answer::Draining));
-    check_still_there(rt, delay, sender);
-}
+const GIVES_BACK: &[Step] = &[
+    Step::Advance(3, (0, 0, 4)),
+    Step::Close(Some(0)),
+    Step::Advance(3, (0, 3, 1)),
+    Step::OnTable([false, false, false, false, false, false, false, true]),
+    Step::Queue(0, Answer::Closed),
+    Step::Queue(7, Answer::Pending),
+];
 
-fn check_too_far<R: Abort>(rt: &R, delay: &mut Delay, item: u32) {
-    let too_far = 4_294_967_296;
-    expect_same(rt, arm(delay, item, too_far), Some(Armed::TooFar));
-    let modified = modify(delay, item, too_far);
-    expect_same(rt, (item, modified), (item, Some(Modified::TooFar)));
-}
+const TOO_FAR: u64 = 4_294_967_296;
 
 /// Within a drain an arming or a change of delay to none is answered so: an item on the table keeps its place, and of any other
 /// nothing is held. A delay that is too far is so in a drain too.
 #[test]
 fn calls_within_a_drain(rt: HostRuntime) {
-    let (mut owner, mut sender, mut delay) = delayed(&rt, rt.alloc(), 8, 0);
-    arm_and_drain(&rt, &mut delay, &mut owner);
-    for _ in 0..2u32 {
-        check_refused(&rt, &mut delay, &mut sender);
-    }
-    check_too_far(&rt, &mut delay, 0);
-    check_too_far(&rt, &mut delay, 1);
-    let due = delay.due_list(9).expect(&rt, "memory");
-    expect_same(&rt, due.as_slice(), [5, 2, 0, 7].as_slice());
+    play(&rt, rt.alloc(), WITHIN);
 }
+
+/// What would be due at once is answered by the drain, or by what is pending, and changes nothing, twice.
+const WITHIN: &[Step] = &[
+    Step::Arm(1, 0, Armed::Draining),
+    Step::Arm(2, 0, Armed::Pending),
+    Step::Modify(1, 0, Modified::Draining),
+    Step::Modify(0, 0, Modified::Draining),
+    Step::Queue(1, Answer::Draining),
+    Step::StillThere,
+    Step::Arm(1, 0, Armed::Draining),
+    Step::Arm(2, 0, Armed::Pending),
+    Step::Modify(1, 0, Modified::Draining),
+    Step::Modify(0, 0, Modified::Draining),
+    Step::Queue(1, Answer::Draining),
+    Step::StillThere,
+    Step::Arm(0, TOO_FAR, Armed::TooFar),
+    Step::Modify(0, TOO_FAR, Modified::TooFar),
+    Step::Arm(1, TOO_FAR, Armed::TooFar),
+    Step::Modify(1, TOO_FAR, Modified::TooFar),
+    Step::Due(9, [5, 2, 0, 7]),
+];
 
 /// Calls that post nothing are as ever within a drain: an item is armed, moved behind others of its tick, and cancelled.
 #[test]
 fn table_changes_within_a_drain(rt: HostRuntime) {
-    let (mut owner, mut sender, mut delay) = delayed(&rt, rt.alloc(), 8, 0);
-    arm_and_drain(&rt, &mut delay, &mut owner);
-    expect_same(&rt, advance(&mut delay, 3), Some((0, 0, 4)));
-    expect_same(&rt, arm(&mut delay, 4, 6), Some(Armed::OnTable));
-    expect_same(&rt, modify(&mut delay, 2, 6), Some(Modified::Moved));
-    expect_same(&rt, modify(&mut delay, 3, 1), Some(Modified::WasIdle));
-    expect_same(&rt, cancel(&mut delay, 5), Some(true));
-    expect_same(&rt, cancel(&mut delay, 5), Some(false));
-    expect_same(&rt, queue_once(&mut sender, 5), Some(Answer::Draining));
-    expect_same(&rt, on_table(&delay), [YES, NO, YES, YES, YES, NO, NO, YES]);
-    expect_same(&rt, resume(&mut owner), true);
-    expect_same(&rt, advance(&mut delay, 9), Some((5, 0, 0)));
-    check_order(&rt, &mut owner, &[0, 3, 7, 4, 2]);
+    play(&rt, rt.alloc(), CHANGES);
 }
+
+const CHANGES: &[Step] = &[
+    Step::Advance(3, (0, 0, 4)),
+    Step::Arm(4, 6, Armed::OnTable),
+    Step::Modify(2, 6, Modified::Moved),
+    Step::Modify(3, 1, Modified::WasIdle),
+    Step::Cancel(5, true),
+    Step::Cancel(5, false),
+    Step::Queue(5, Answer::Draining),
+    Step::OnTable([true, false, true, true, true, false, false, true]),
+    Step::Resume(true),
+    Step::Advance(9, (5, 0, 0)),
+    Step::Execute(Some(0)),
+    Step::Execute(Some(3)),
+    Step::Execute(Some(7)),
+    Step::Execute(Some(4)),
+    Step::Execute(Some(2)),
+    Step::Execute(None),
+];
 
 /// How many items a thread lets go beside drains.
 const ITEMS: u32 = 64;
