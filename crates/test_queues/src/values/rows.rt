@@ -7,143 +7,138 @@ use crate::seats::{FIRST, QUEUED, WAKES};
 use std::alloc::Global;
 use std::process::Abort;
 use wq_live::Answer;
-use wq_values::{ValueOwner, ValueSender};
+use wq_values::ValueOwner;
+
+/// A call of the sender or of the owner, with what it answers.
+#[derive(Clone, Copy)]
+enum Step {
+    /// An item with these words, which come back where it is not queued.
+    Queue(u32, &'static str, Answer),
+    Chain(u32, &'static str, Answer),
+    Take(u32),
+    Close(u32),
+    Drain(u32),
+    Resume,
+    /// The next number begins, and is handed these words.
+    Begin(u32, &'static str),
+    End(u32),
+    Done,
+}
 
 /// A string of its own.
 fn text<R: Abort>(rt: &R, alloc: Global, words: &str) -> String {
     String::from_str(alloc, words).expect(rt, "memory")
 }
 
-/// Queues an item with these words. What was answered, and whether the very words came back.
-fn queue<R: Abort>(
+/// The answer is this one, and the very words came back where the item was not queued.
+fn check_answer<R: Abort>(
     rt: &R,
-    alloc: Global,
-    sender: &mut ValueSender<String>,
-    item: u32,
+    given: (Option<Answer>, Option<String>),
+    wanted: Answer,
     words: &str,
-) -> (Option<Answer>, bool) {
-    let (answer, back) = queue_once(sender, item, text(rt, alloc, words));
-    match back {
-        Some(back) => (answer, back.as_str() == words),
-        None => (answer, false),
-    }
+) {
+    let (answer, back) = given;
+    expect_same(rt, (words, answer), (words, Some(wanted)));
+    let is_queued = matches!(wanted, Answer::Queued { .. });
+    let is_right = match back {
+        Some(back) => !is_queued && back.as_str() == words,
+        None => is_queued,
+    };
+    expect_same(rt, (words, is_right), (words, true));
 }
 
 /// The next number begins, and was handed these words.
 fn begins_with<R: Abort>(rt: &R, owner: &mut ValueOwner<String>, number: u32, words: &str) {
     let (begun, value) = begin(owner).expect(rt, "a number begins");
-    expect_same(rt, begun, number);
     let value = value.expect(rt, "a value");
-    assert!(rt; value.as_str() == words, "item {number}");
+    expect_same(rt, (begun, value.as_str()), (number, words));
 }
+
+/// A step of the owner.
+fn step_owner<R: Abort>(rt: &R, alloc: Global, owner: &mut ValueOwner<String>, step: Step) {
+    match step {
+        Step::Chain(item, words, answer) => {
+            let given = chain(owner, item, text(rt, alloc, words));
+            check_answer(rt, given, answer, words);
+        }
+        Step::Take(count) => expect_same(rt, take(owner), Some(count)),
+        Step::Close(count) => expect_same(rt, close(owner), Some(count)),
+        Step::Drain(count) => expect_same(rt, drain(owner), Some(count)),
+        Step::Resume => expect_same(rt, resume(owner), true),
+        Step::Begin(number, words) => begins_with(rt, owner, number, words),
+        Step::End(number) => expect_same(rt, end(owner), Some(number)),
+        Step::Done => expect_same(rt, owner.done().is_some(), true),
+        Step::Queue(..) => {}
+    }
+}
+
+/// Makes the steps on a new queue of so many items.
+fn play<R: Abort>(rt: &R, alloc: Global, items: u32, steps: &[Step]) {
+    let (mut owner, mut sender) = seats(rt, alloc, items);
+    for &step in steps {
+        if let Step::Queue(item, words, answer) = step {
+            let given = queue_once(&mut sender, item, text(rt, alloc, words));
+            check_answer(rt, given, answer, words);
+        } else {
+            step_owner(rt, alloc, &mut owner, step);
+        }
+    }
+}
+
+const AGAIN: &[Step] = &[
+    Step::Queue(0, "a", WAKES),
+    Step::Queue(0, "b", Answer::Pending),
+    Step::Take(1),
+    Step::Begin(0, "a"),
+    Step::Queue(0, "b", FIRST),
+    Step::Close(1),
+    Step::Queue(1, "c", Answer::Closed),
+    Step::End(0),
+    Step::Begin(0, "b"),
+    Step::End(0),
+    Step::Done,
+];
 
 /// What is pending, and what is queued behind a close, comes back; an item that runs may be queued again.
 #[test]
 fn execution_is_handed_what_its_queueing_brought(rt: HostRuntime) {
-    let alloc = rt.alloc();
-    let (mut owner, mut sender) = seats(&rt, alloc, 4);
-    expect_same(
-        &rt,
-        queue(&rt, alloc, &mut sender, 0, "a"),
-        (Some(WAKES), false),
-    );
-    expect_same(
-        &rt,
-        queue(&rt, alloc, &mut sender, 0, "b"),
-        (Some(Answer::Pending), true),
-    );
-    expect_same(&rt, take(&mut owner), Some(1));
-    begins_with(&rt, &mut owner, 0, "a");
-    expect_same(
-        &rt,
-        queue(&rt, alloc, &mut sender, 0, "b"),
-        (Some(FIRST), false),
-    );
-    expect_same(&rt, close(&mut owner), Some(1));
-    expect_same(
-        &rt,
-        queue(&rt, alloc, &mut sender, 1, "c"),
-        (Some(Answer::Closed), true),
-    );
-    expect_same(&rt, end(&mut owner), Some(0));
-    begins_with(&rt, &mut owner, 0, "b");
-    expect_same(&rt, end(&mut owner), Some(0));
-    assert!(rt; owner.done().is_some());
+    play(&rt, rt.alloc(), 4, AGAIN);
 }
 
-/// Chains item 2 with its words. With others it is pending, and these come back.
-fn chain_two<R: Abort>(rt: &R, alloc: Global, owner: &mut ValueOwner<String>) {
-    let (answer, back) = chain(owner, 2, text(rt, alloc, "two"));
-    expect_same(rt, (answer, back.is_none()), (Some(QUEUED), true));
-    let (answer, back) = chain(owner, 2, text(rt, alloc, "again"));
-    let back = back.expect(rt, "the value");
-    expect_same(
-        rt,
-        (answer, back.as_str() == "again"),
-        (Some(Answer::Pending), true),
-    );
-}
-
-/// Queues each item with its words.
-fn queue_all<R: Abort>(
-    rt: &R,
-    alloc: Global,
-    sender: &mut ValueSender<String>,
-    items: &[(u32, &str)],
-) {
-    for &(item, words) in items {
-        queue(rt, alloc, sender, item, words);
-    }
-}
-
-/// Each item runs with its words.
-fn run_all<R: Abort>(rt: &R, owner: &mut ValueOwner<String>, items: &[(u32, &str)]) {
-    for &(item, words) in items {
-        begins_with(rt, owner, item, words);
-        expect_same(rt, end(owner), Some(item));
-    }
-}
-
-/// What is left behind the first of a batch, in its order.
-const BEHIND: &[(u32, &str)] = &[
-    (1, "one"),
-    (7, "seven"),
-    (0, "zero"),
-    (5, "five"),
-    (2, "two"),
+const BEHIND: &[Step] = &[
+    Step::Queue(3, "three", WAKES),
+    Step::Queue(1, "one", QUEUED),
+    Step::Queue(7, "seven", QUEUED),
+    Step::Take(3),
+    Step::Queue(0, "zero", FIRST),
+    Step::Queue(5, "five", QUEUED),
+    Step::Drain(2),
+    Step::Queue(6, "six", Answer::Draining),
+    Step::Begin(3, "three"),
+    Step::Chain(2, "two", QUEUED),
+    Step::Chain(2, "again", Answer::Pending),
+    Step::End(3),
+    Step::Begin(1, "one"),
+    Step::End(1),
+    Step::Begin(7, "seven"),
+    Step::End(7),
+    Step::Begin(0, "zero"),
+    Step::End(0),
+    Step::Begin(5, "five"),
+    Step::End(5),
+    Step::Begin(2, "two"),
+    Step::End(2),
+    Step::Resume,
+    Step::Queue(6, "six", FIRST),
+    Step::Take(1),
+    Step::Begin(6, "six"),
+    Step::End(6),
 ];
 
 /// A batch that waits, what a drain adds behind it, and what is chained: each begins with its own words.
 #[test]
 fn values_keep_their_order_behind_a_batch(rt: HostRuntime) {
-    let alloc = rt.alloc();
-    let (mut owner, mut sender) = seats(&rt, alloc, 8);
-    queue_all(
-        &rt,
-        alloc,
-        &mut sender,
-        &[(3, "three"), (1, "one"), (7, "seven")],
-    );
-    expect_same(&rt, take(&mut owner), Some(3));
-    queue_all(&rt, alloc, &mut sender, &[(0, "zero"), (5, "five")]);
-    expect_same(&rt, drain(&mut owner), Some(2));
-    expect_same(
-        &rt,
-        queue(&rt, alloc, &mut sender, 6, "six"),
-        (Some(Answer::Draining), true),
-    );
-    begins_with(&rt, &mut owner, 3, "three");
-    chain_two(&rt, alloc, &mut owner);
-    expect_same(&rt, end(&mut owner), Some(3));
-    run_all(&rt, &mut owner, BEHIND);
-    assert!(rt; resume(&mut owner));
-    expect_same(
-        &rt,
-        queue(&rt, alloc, &mut sender, 6, "six"),
-        (Some(FIRST), false),
-    );
-    let (item, value) = execute_one(&mut owner).expect(&rt, "item 6");
-    expect_same(&rt, (item, value.is_some()), (6, true));
+    play(&rt, rt.alloc(), 8, BEHIND);
 }
 
 /// A barrier and the stop item bring nothing.
@@ -151,13 +146,13 @@ fn values_keep_their_order_behind_a_batch(rt: HostRuntime) {
 fn barriers_bring_nothing(rt: HostRuntime) {
     let alloc = rt.alloc();
     let (mut owner, mut sender) = seats::<_, String>(&rt, alloc, 2);
-    queue(&rt, alloc, &mut sender, 1, "one");
+    queue_once(&mut sender, 1, text(&rt, alloc, "one"));
     if sender.layout().barriers > 0 {
         expect_same(&rt, sender.flush_begin(0, 1), QUEUED);
         assert!(rt; !sender.flush_done(0));
     }
     expect_same(&rt, sender.request_stop(1), QUEUED);
-    for (number, brings) in [(1, true), (2, false), (3, false)] {
+    for &(number, brings) in &[(1, true), (2, false), (3, false)] {
         let (begun, value) = execute_one(&mut owner).expect(&rt, "a number");
         expect_same(&rt, (begun, value.is_some()), (number, brings));
     }

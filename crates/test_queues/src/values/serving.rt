@@ -1,7 +1,10 @@
 //! A worker whose items bring values, as it serves in a thread of its own, and as it runs up to a limit.
 ghost use Rattle.std.specs.Prelude.{◌≡◌};
 
-use super::worker::{Keeping, Team, destroy, four_pairs, new_team, new_worker, queue, take_last};
+use super::worker::{
+    Keeping, Step, TWO_BACK, Team, destroy, four_pairs, new_team, new_worker, play_out, queue,
+    take_last,
+};
 use crate::expect::expect_same;
 use crate::seats::FIRST;
 use crate::worker::team::new_parker;
@@ -14,7 +17,6 @@ use std::thread::{Threads, join_mut};
 use wq_live::{Answer, Spins};
 use wq_value_worker::{ValueFollow, ValueWork, ValueWorker};
 use wq_values::{ValueAnswer, ValueSender};
-use wq_worker::Totals;
 
 /// How many items of its own each of two senders queues.
 const OWN: u32 = 64;
@@ -149,18 +151,19 @@ fn served_worker_runs_values_and_ends(rt: HostRuntime) {
     }
 }
 
-/// What the worker's seats have counted by so many executions, of which the first asked for four pairs.
-fn totals(executed: u128) -> Totals {
-    Totals {
-        queued: 2,
-        chained: 0,
-        executed,
-        pending: 1,
-        closed: 0,
-        draining: 0,
-        contended: 0,
-    }
-}
+/// After one execution.
+const GOES_ON: &[Step] = &[
+    Step::Counts(1),
+    Step::RunSome(9, 3),
+    Step::RunSome(9, 0),
+    Step::Stop(FIRST),
+    Step::First(3, 30),
+    Step::RunSome(9, 1),
+    Step::Counts(5),
+];
+
+/// What runs in all.
+const RAN: &[(u32, u64)] = &[(0, 7), (2, 20), (5, 50), (4, 40), (3, 30)];
 
 /// A call runs up to its limit, or until nothing waits, or the stop item ran, and the next one goes on. The counts are those of the
 /// worker's own seats. A sender that the worker met goes on too.
@@ -176,14 +179,10 @@ fn runs_up_to_a_limit(rt: HostRuntime) {
     expect_same(&rt, worker.run_some(0), 0);
     expect_same(&rt, worker.run_some(1), 1);
     worker.meet(&mut first);
-    expect_same(&rt, worker.counts(), totals(1));
-    expect_same(&rt, worker.run_some(9), 3);
-    expect_same(&rt, worker.run_some(9), 0);
-    expect_same(&rt, second.request_stop(1), FIRST);
-    queue(&rt, &mut first, 3, 30);
-    expect_same(&rt, worker.run_some(9), 1);
-    expect_same(&rt, worker.counts(), totals(5));
-    let (work, _book) = destroy(&rt, worker, 1);
-    let ran = [(0, 7), (2, 20), (5, 50), (4, 40), (3, 30)];
-    expect_same(&rt, work.ran.as_slice(), ran.as_slice());
+    let team = Team {
+        worker,
+        first,
+        second,
+    };
+    play_out(&rt, team, GOES_ON, 1, RAN, TWO_BACK);
 }

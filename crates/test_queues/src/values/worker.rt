@@ -151,91 +151,166 @@ fn destroy_some<R: Abort, V: Drop, W: ValueWork<V> + Drop>(
     }
 }
 
+/// A call of a sender or of the worker, with what it answers.
+#[derive(Clone, Copy)]
+pub(super) enum Step {
+    /// The sender queues an item with a value.
+    First(u32, u64),
+    Second(u32, u64),
+    /// The second sender requests the stop.
+    Stop(Answer),
+    /// The worker runs one number, or up to so many.
+    Run(Ran),
+    RunSome(u32, u32),
+    Drain(u32, Drained),
+    Close,
+    /// How many executions the worker has counted, of which the first asked for four pairs.
+    Counts(u128),
+}
+
+/// What a worker of four pairs has counted in so many executions.
+fn totals(executed: u128) -> Totals {
+    Totals {
+        queued: 2,
+        chained: 0,
+        executed,
+        pending: 1,
+        closed: 0,
+        draining: 0,
+        contended: 0,
+    }
+}
+
+/// A step of the worker.
+fn step_worker<R: Abort>(
+    rt: &R,
+    worker: &mut ValueWorker<u64, Keeping<'_, R, u64>>,
+    place: usize,
+    step: Step,
+) {
+    match step {
+        Step::Run(ran) => expect_same(rt, (place, worker.run_one()), (place, ran)),
+        Step::RunSome(limit, count) => {
+            expect_same(rt, (place, worker.run_some(limit)), (place, count));
+        }
+        Step::Drain(limit, drained) => {
+            expect_same(rt, (place, worker.drain(limit)), (place, drained));
+        }
+        Step::Close => {
+            assert!(rt; !worker.is_closed());
+            worker.close();
+        }
+        Step::Counts(executed) => expect_same(rt, worker.counts(), totals(executed)),
+        _ => {}
+    }
+}
+
+/// Makes the steps, and looks whether each answers what is said of it.
+fn play<R: Abort>(rt: &R, team: &mut Team<'_, R, u64>, steps: &[Step]) {
+    for (place, &step) in steps.iter().enumerate() {
+        match step {
+            Step::First(item, value) => queue(rt, &mut team.first, item, value),
+            Step::Second(item, value) => queue(rt, &mut team.second, item, value),
+            Step::Stop(answer) => expect_same(rt, team.second.request_stop(1), answer),
+            _ => step_worker(rt, &mut team.worker, place, step),
+        }
+    }
+}
+
+/// Makes the steps, and destroys the worker, which has run these by then, and these came back.
+pub(super) fn play_out<R: Abort>(
+    rt: &R,
+    mut team: Team<'_, R, u64>,
+    steps: &[Step],
+    limit: u32,
+    ran: &[(u32, u64)],
+    came_back: &[(u32, u64)],
+) {
+    play(rt, &mut team, steps);
+    let (work, _book) = destroy(rt, team.worker, limit);
+    expect_same(rt, work.ran.as_slice(), ran);
+    expect_same(rt, work.came_back.as_slice(), came_back);
+}
+
 /// Each item runs with the value that it was queued with, in the order of the queueings, whichever sender's.
 #[test]
 fn each_runs_with_its_value(rt: HostRuntime) {
-    let mut team = new_team(&rt, rt.alloc(), ValueFollow::new());
-    queue(&rt, &mut team.first, 3, 30u64);
-    queue(&rt, &mut team.second, 0, 7);
-    queue(&rt, &mut team.first, 2, 20);
-    expect_same(&rt, team.worker.run_one(), Ran::Item(3));
-    queue(&rt, &mut team.second, 3, 31);
-    for item in [0u32, 2, 3] {
-        expect_same(&rt, team.worker.run_one(), Ran::Item(item));
-    }
-    expect_same(&rt, team.worker.run_one(), Ran::Nothing);
-    expect_same(&rt, team.second.request_stop(1), FIRST);
-    expect_same(&rt, team.worker.run_one(), Ran::Stop);
-    let (work, _book) = destroy(&rt, team.worker, 0);
-    let ran = [(3, 30), (0, 7), (2, 20), (3, 31)];
-    expect_same(&rt, work.ran.as_slice(), ran.as_slice());
-    expect_same(&rt, work.came_back.len(), 0);
+    let team = new_team(&rt, rt.alloc(), ValueFollow::new());
+    play_out(&rt, team, EACH, 0, EACH_RAN, &[]);
 }
 
-/// What may be with a queue as its item runs.
-#[derive(Clone, Copy, Debug, PartialEq, Eq)]
-enum Door {
-    Open,
-    Draining,
-    Closed,
-}
+const EACH_RAN: &[(u32, u64)] = &[(3, 30), (0, 7), (2, 20), (3, 31)];
+
+const EACH: &[Step] = &[
+    Step::First(3, 30),
+    Step::Second(0, 7),
+    Step::First(2, 20),
+    Step::Run(Ran::Item(3)),
+    Step::Second(3, 31),
+    Step::Run(Ran::Item(0)),
+    Step::Run(Ran::Item(2)),
+    Step::Run(Ran::Item(3)),
+    Step::Run(Ran::Nothing),
+    Step::Stop(FIRST),
+    Step::Run(Ran::Stop),
+];
 
 /// Four pairs: the second's item is pending by then, and the third's number is that of the barrier.
 pub(super) fn four_pairs<R: Abort>(rt: &R) -> ValueFollow<u64> {
     let mut asks = ValueFollow::new();
-    for (item, value) in [(5u32, 50u64), (2, 21), (8, 80), (4, 40)] {
+    for &(item, value) in &[(5u32, 50u64), (2, 21), (8, 80), (4, 40)] {
         assert!(rt; asks.push(item, value).is_ok());
     }
     expect_same(rt, asks.push(6, 60), Err(60));
     asks
 }
 
-/// Closes the queue, or begins a drain of it.
-fn shut<R: Abort>(rt: &R, worker: &mut ValueWorker<u64, Keeping<'_, R, u64>>, door: Door)
-    ensures { worker.new.worker.queue ≡ worker.old.worker.queue }
-{
-    match door {
-        Door::Open => {}
-        Door::Draining => expect_same(rt, worker.drain(0), Drained::TooLong { left: 2 }),
-        Door::Closed => {
-            assert!(rt; !worker.is_closed());
-            worker.close();
-        }
-    }
-}
+/// What comes back of four pairs.
+pub(super) const TWO_BACK: &[(u32, u64)] = &[(2, 21), (8, 80)];
 
-/// Runs item 0, and the three behind it.
-fn run_four<R: Abort>(rt: &R, worker: &mut ValueWorker<u64, Keeping<'_, R, u64>>, door: Door) {
-    for item in [0u32, 2, 5, 4] {
-        expect_same(rt, (door, worker.run_one()), (door, Ran::Item(item)));
-    }
-    expect_same(rt, worker.run_one(), Ran::Nothing);
-}
+/// What runs where items 0 and 2 were queued.
+const FOUR_RAN: &[(u32, u64)] = &[(0, 7), (2, 20), (5, 50), (4, 40)];
 
 /// Item 0 asks for four pairs. Two come back once each, with their own values, and the two others run with theirs, behind what
-/// was queued before.
-fn follow_pairs<R: Abort>(rt: &R, alloc: Global, door: Door) {
-    let mut team = new_team(rt, alloc, four_pairs(rt));
-    queue(rt, &mut team.first, 0, 7);
-    queue(rt, &mut team.second, 2, 20);
-    shut(rt, &mut team.worker, door);
-    run_four(rt, &mut team.worker, door);
-    let (work, _book) = destroy(rt, team.worker, 0);
-    let ran = [(0, 7), (2, 20), (5, 50), (4, 40)];
-    expect_same(rt, (door, work.ran.as_slice()), (door, ran.as_slice()));
-    let came_back = [(2, 21), (8, 80)];
-    expect_same(
-        rt,
-        (door, work.came_back.as_slice()),
-        (door, came_back.as_slice()),
-    );
-}
+/// was queued before: on an open queue, on one that drains and on a closed one.
+const DOORS: &[&[Step]] = &[
+    &[
+        Step::First(0, 7),
+        Step::Second(2, 20),
+        Step::Run(Ran::Item(0)),
+        Step::Run(Ran::Item(2)),
+        Step::Run(Ran::Item(5)),
+        Step::Run(Ran::Item(4)),
+        Step::Run(Ran::Nothing),
+    ],
+    &[
+        Step::First(0, 7),
+        Step::Second(2, 20),
+        Step::Drain(0, Drained::TooLong { left: 2 }),
+        Step::Run(Ran::Item(0)),
+        Step::Run(Ran::Item(2)),
+        Step::Run(Ran::Item(5)),
+        Step::Run(Ran::Item(4)),
+        Step::Run(Ran::Nothing),
+    ],
+    &[
+        Step::First(0, 7),
+        Step::Second(2, 20),
+        Step::Close,
+        Step::Run(Ran::Item(0)),
+        Step::Run(Ran::Item(2)),
+        Step::Run(Ran::Item(5)),
+        Step::Run(Ran::Item(4)),
+        Step::Run(Ran::Nothing),
+    ],
+];
 
 /// What a run asks for is queued with its values, also where the queue takes no push, or comes back.
 #[test]
 fn pairs_are_queued_or_come_back(rt: HostRuntime) {
-    for door in [Door::Open, Door::Draining, Door::Closed] {
-        follow_pairs(&rt, rt.alloc(), door);
+    for &steps in DOORS {
+        let team = new_team(&rt, rt.alloc(), four_pairs(&rt));
+        play_out(&rt, team, steps, 0, FOUR_RAN, TWO_BACK);
     }
 }
 
