@@ -139,18 +139,38 @@ fn new_seats<R: Abort>(rt: &R, alloc: Global, items: u32) -> Seats {
     }
 }
 
+/// Queues a half, and then the seat goes, where it is to.
+fn queue_half<R: Abort>(
+    rt: &R,
+    seat: &mut Option<ValueSender<Counted>>,
+    from: u32,
+    to: u32,
+    shared: &Arc<u32>,
+    goes: bool,
+) -> u32 {
+    let Some(sender) = seat else {
+        return 0;
+    };
+    let queued = queue_all(rt, sender, from, to, shared);
+    if goes {
+        *seat = None;
+    }
+    queued
+}
+
 /// The two senders queue a half each in two threads. How many each of them queued.
 fn queue_halves<R: Abort + Threads + Sync>(
     rt: &R,
-    first: &mut ValueSender<Counted>,
-    second: &mut ValueSender<Counted>,
+    first: &mut Option<ValueSender<Counted>>,
+    second: &mut Option<ValueSender<Counted>>,
     half: u32,
     shared: &Arc<u32>,
+    go: bool,
 ) -> (u32, u32) {
     join(
         rt,
-        || queue_all(rt, first, 0, half, shared),
-        || queue_all(rt, second, half, half.wrapping_mul(2), shared),
+        || queue_half(rt, first, 0, half, shared, go),
+        || queue_half(rt, second, half, half.wrapping_mul(2), shared, go),
     )
 }
 
@@ -160,14 +180,15 @@ fn queue_halves<R: Abort + Threads + Sync>(
 fn two_threads_queue_values_in_their_order(rt: HostRuntime) {
     let Seats {
         mut owner,
-        mut first,
-        mut second,
+        first,
+        second,
         shared,
     } = new_seats(&rt, rt.alloc(), 512);
+    let mut seats = (Some(first), Some(second));
     let mut executed = Vec::new(rt.alloc());
     let (queued, ran) = join(
         &rt,
-        || queue_halves(&rt, &mut first, &mut second, 256, &shared),
+        || queue_halves(&rt, &mut seats.0, &mut seats.1, 256, &shared, false),
         || execute_for(&mut owner, 200_000, &mut executed),
     );
     expect_same(&rt, (queued, ran), ((256, 256), true));
@@ -178,37 +199,6 @@ fn two_threads_queue_values_in_their_order(rt: HostRuntime) {
     expect_same(&rt, alive(&shared), 512);
     drop(executed);
     expect_same(&rt, alive(&shared), 0);
-}
-
-/// Queues a half, and then the seat goes.
-fn queue_and_go<R: Abort>(
-    rt: &R,
-    seat: &mut Option<ValueSender<Counted>>,
-    from: u32,
-    to: u32,
-    shared: &Arc<u32>,
-) -> u32 {
-    let Some(mut sender) = seat.take() else {
-        return 0;
-    };
-    let queued = queue_all(rt, &mut sender, from, to, shared);
-    drop(sender);
-    queued
-}
-
-/// Both queue a half each in threads, and go.
-fn queue_halves_and_go<R: Abort + Threads + Sync>(
-    rt: &R,
-    first: &mut Option<ValueSender<Counted>>,
-    second: &mut Option<ValueSender<Counted>>,
-    half: u32,
-    shared: &Arc<u32>,
-) -> (u32, u32) {
-    join(
-        rt,
-        || queue_and_go(rt, first, 0, half, shared),
-        || queue_and_go(rt, second, half, half.wrapping_mul(2), shared),
-    )
 }
 
 /// Executes so many numbers, each as it comes, and drops what it was handed.
@@ -238,7 +228,7 @@ fn senders_go_and_each_value_is_dropped_once(rt: HostRuntime) {
     let mut seats = (Some(first), Some(second));
     let (queued, _) = join(
         &rt,
-        || queue_halves_and_go(&rt, &mut seats.0, &mut seats.1, 256, &shared),
+        || queue_halves(&rt, &mut seats.0, &mut seats.1, 256, &shared, true),
         || execute_and_drop(&rt, &mut owner, 100),
     );
     expect_same(&rt, (queued, alive(&shared)), ((256, 256), 412));
