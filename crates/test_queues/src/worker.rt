@@ -8,5 +8,6 @@ mod destroying;
 mod draining;
 mod resting;
 mod serving;
+mod steps;
 mod stopping;
 pub(crate) mod team;

@@ -2,7 +2,8 @@
 ghost use Rattle.std.specs.Prelude.{◌≡◌, []};
 
 use crate::expect::expect_same;
-use crate::seats::{FIRST, WAKES, queue_item};
+use crate::seats::{FIRST, WAKES};
+use crate::worker::steps::{Step, play};
 use crate::worker::team::{destroy, new_queue, take_last};
 use arrayvec::ArrayVec;
 use std::alloc::Global;
@@ -48,47 +49,58 @@ impl Work for Again {
     }
 }
 
-/// A worker whose work queues again, with item 3 queued, and the sender that queued it.
+/// A worker whose work queues again, and a sender of its queue.
 fn new_again<R: Abort>(rt: &R, alloc: Global) -> (Worker<Again>, Sender) {
     let (owner, mut senders) = new_queue(rt, alloc, 4, 3);
     let last = take_last(rt, &owner, &mut senders);
     let second = take_last(rt, &owner, &mut senders);
-    let mut first = take_last(rt, &owner, &mut senders);
-    expect_same(rt, queue_item(rt, &mut first, 3), WAKES);
+    let first = take_last(rt, &owner, &mut senders);
     (Worker::new(owner, last, Again::new(second), 1), first)
+}
+
+/// What such a work has run once its worker is destroyed, what its queueing was answered, and how many it has queued.
+type End = (&'static [u32], Answer, u64);
+
+/// Item 3 is queued, and after the steps the worker is destroyed, with up to nine executions.
+fn play_out<R: Abort>(rt: &R, alloc: Global, steps: &[Step], end: End) {
+    let (mut worker, mut first) = new_again(rt, alloc);
+    play(rt, &mut worker, &mut first, steps);
+    let (work, _book) = destroy(rt, worker, 9);
+    let (ran, answer, queued) = end;
+    expect_same(rt, work.order.as_slice(), ran);
+    expect_same(rt, work.answer, Some(answer));
+    expect_same(rt, work.sender.counts().queued, queued);
 }
 
 /// The item that runs is not pending: it is queued within its run, and runs once more.
 #[test]
 fn item_queues_itself(rt: HostRuntime) {
-    let (mut worker, _first) = new_again(&rt, rt.alloc());
-    expect_same(&rt, worker.run_one(), Ran::Item(3));
-    expect_same(&rt, worker.run_one(), Ran::Item(3));
-    expect_same(&rt, worker.run_one(), Ran::Nothing);
-    let (work, _book) = destroy(&rt, worker, 0);
-    expect_same(&rt, work.order.as_slice(), [3, 3].as_slice());
-    expect_same(&rt, work.answer, Some(FIRST));
-    expect_same(&rt, work.sender.counts().queued, 1);
+    play_out(&rt, rt.alloc(), OPEN, (&[3, 3], FIRST, 1));
 }
+
+const OPEN: &[Step] = &[
+    Step::Queue(3, WAKES),
+    Step::Run(Ran::Item(3)),
+    Step::Run(Ran::Item(3)),
+    Step::Run(Ran::Nothing),
+];
 
 /// Under a drain it is answered that the queue drains: the drain ends, and the item may be queued again after it.
 #[test]
 fn drain_answers_the_run(rt: HostRuntime) {
-    let (mut worker, mut first) = new_again(&rt, rt.alloc());
-    expect_same(&rt, worker.drain(9), Drained::Empty);
-    expect_same(&rt, queue_item(&rt, &mut first, 3), FIRST);
-    let (work, _book) = destroy(&rt, worker, 9);
-    expect_same(&rt, work.order.as_slice(), [3, 3].as_slice());
-    expect_same(&rt, work.answer, Some(Answer::Draining));
-    expect_same(&rt, work.sender.counts().queued, 0);
+    play_out(&rt, rt.alloc(), DRAIN, (&[3, 3], Answer::Draining, 0));
 }
+
+const DRAIN: &[Step] = &[
+    Step::Queue(3, WAKES),
+    Step::Drain(9, Drained::Empty),
+    Step::Queue(3, FIRST),
+];
 
 /// Under a destroy it is answered that the queue is closed, and the item runs no more.
 #[test]
 fn destroy_answers_the_run(rt: HostRuntime) {
-    let (worker, _first) = new_again(&rt, rt.alloc());
-    let (work, _book) = destroy(&rt, worker, 9);
-    expect_same(&rt, work.order.as_slice(), [3].as_slice());
-    expect_same(&rt, work.answer, Some(Answer::Closed));
-    expect_same(&rt, work.sender.counts().queued, 0);
+    play_out(&rt, rt.alloc(), ALONE, (&[3], Answer::Closed, 0));
 }
+
+const ALONE: &[Step] = &[Step::Queue(3, WAKES)];

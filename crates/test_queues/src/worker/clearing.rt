@@ -2,7 +2,8 @@
 ghost use Rattle.std.specs.Prelude.{◌≡◌, []};
 
 use crate::expect::expect_same;
-use crate::seats::{WAKES, queue_item};
+use crate::seats::{QUEUED, WAKES};
+use crate::worker::steps::{Step, play};
 use crate::worker::team::{destroy, new_queue, take_last};
 use arrayvec::ArrayVec;
 use std::alloc::Global;
@@ -55,24 +56,31 @@ fn new_noting<R: Abort>(rt: &R, alloc: Global) -> (Worker<Noting>, Sender) {
     (Worker::new(owner, last, Noting::new(second), 1), first)
 }
 
+/// What such a work found in the runs of these steps, with its worker destroyed then.
+fn check_found<R: Abort>(rt: &R, alloc: Global, steps: &[Step], found: &[bool]) {
+    let (mut worker, mut first) = new_noting(rt, alloc);
+    play(rt, &mut worker, &mut first, steps);
+    let (work, _book) = destroy(rt, worker, 9);
+    expect_same(rt, work.found.as_slice(), found);
+}
+
 /// The bit is clear before the function runs (`work_pending`).
 #[test]
 fn runs_after_the_bit_is_cleared(rt: HostRuntime) {
-    let (mut worker, mut first) = new_noting(&rt, rt.alloc());
-    expect_same(&rt, queue_item(&rt, &mut first, 3), WAKES);
-    expect_same(&rt, worker.run_one(), Ran::Item(3));
-    let (work, _book) = destroy(&rt, worker, 9);
-    expect_same(&rt, work.found.as_slice(), [false].as_slice());
+    check_found(&rt, rt.alloc(), ONE, &[false]);
 }
+
+const ONE: &[Step] = &[Step::Queue(3, WAKES), Step::Run(Ran::Item(3))];
 
 /// So it is for each item of a take, and not the first alone.
 #[test]
 fn each_of_a_take_runs_after_its_bit_is_cleared(rt: HostRuntime) {
-    let (mut worker, mut first) = new_noting(&rt, rt.alloc());
-    for item in 0..3u32 {
-        queue_item(&rt, &mut first, item);
-    }
-    expect_same(&rt, worker.run_some(9), 3);
-    let (work, _book) = destroy(&rt, worker, 9);
-    expect_same(&rt, work.found.as_slice(), [false, false, false].as_slice());
+    check_found(&rt, rt.alloc(), THREE, &[false, false, false]);
 }
+
+const THREE: &[Step] = &[
+    Step::Queue(0, WAKES),
+    Step::Queue(1, QUEUED),
+    Step::Queue(2, QUEUED),
+    Step::RunSome(9, 3),
+];

@@ -5,10 +5,12 @@ use crate::balance::balance_met;
 use crate::expect::expect_same;
 use crate::patience::Patience;
 use crate::seats::queue_item;
+use crate::worker::crew::{Job, queue_pair};
 use crate::worker::team::{Team, destroy, new_parker, new_team, serve};
 use crossbeam_utils::sync::{Parker, Unparker};
 use std::process::Abort;
 use std::sync::Wait;
+use std::sync::atomic::AtomicU64;
 use std::thread::{Threads, join_mut, sleep};
 use std::time::{Clock, Duration};
 use trail::Trail;
@@ -49,13 +51,15 @@ impl Work for Restless {
     }
 }
 
-/// Queues 100 items over and over, each with one try.
-fn queue_often<R: Abort>(rt: &R, sender: &mut Sender, first: u32)
+/// Queues 100 items over and over, each with one try. It never looks what it is answered.
+pub(crate) fn queue_often<R: Abort>(rt: &R, sender: &mut Sender) -> u32
     ensures { sender.new.queue ≡ sender.old.queue }
 {
+    let first = sender.number().wrapping_mul(100).wrapping_add(100);
     for turn in 0..100_000u32 {
         queue_item(rt, sender, first.wrapping_add(turn % 100));
     }
+    0
 }
 
 fn request_stop(sender: &mut Sender) -> Answer
@@ -78,7 +82,7 @@ fn stops_by_itself<R: Clock>(rt: &R, sender: &mut Sender) -> bool
 }
 
 /// Two senders queue their items in threads, and then the first requests the stop. Only after that the worker is unparked.
-fn disturb<R: Abort + Clock + Threads + Sync>(
+fn disturb<R: Abort + Clock + Threads + Wait + Sync>(
     rt: &R,
     first: &mut Sender,
     second: &mut Sender,
@@ -86,11 +90,8 @@ fn disturb<R: Abort + Clock + Threads + Sync>(
 ) -> bool
     ensures { (first.new.queue ≡ first.old.queue) × (second.new.queue ≡ second.old.queue) }
 {
-    join_mut(
-        rt,
-        &mut || queue_often(rt, first, 100),
-        &mut || queue_often(rt, second, 200),
-    );
+    let met = AtomicU64::new(0);
+    queue_pair(rt, first, second, Job::Often, unparker, &met);
     let is_stopped = stops_by_itself(rt, first);
     unparker.unpark();
     is_stopped

@@ -2,6 +2,8 @@
 ghost use Rattle.std.specs.Prelude.{◌≡◌, All};
 ghost use Rattle.wq_ledger.specs.Book.{IsLedgerOf};
 
+use super::contention::queue_often;
+use super::draining::{self, drain_until_through};
 use crate::expect::expect_same;
 use crate::worker::team::{Fixed, destroy, new_parker, new_queue, serve, take_last};
 use crossbeam_utils::sync::{Parker, Unparker};
@@ -9,9 +11,10 @@ use std::alloc::Global;
 use std::hint::spin_loop;
 use std::process::Abort;
 use std::sync::Wait;
+use std::sync::atomic::AtomicU64;
 use std::thread::{Threads, join_mut};
 use wq_live::{Answer, Owner, Sender};
-use wq_worker::{Book, Ledger, Ran, Worker};
+use wq_worker::{Book, Ledger, Ran, Totals, Worker};
 
 /// Which answers a sender wakes the worker on.
 #[derive(Clone, Copy)]
@@ -71,19 +74,49 @@ fn queue_own<R: Abort + Wait>(rt: &R, sender: &mut Sender, offer: Offer, unparke
     count
 }
 
-fn queue_pair<R: Abort + Threads + Wait + Sync>(
+/// What senders do in their threads.
+#[derive(Clone, Copy)]
+pub(crate) enum Job {
+    /// Each queues its own items, and wakes the worker, which runs until the stop item ran.
+    Offer(Offer),
+    /// Each queues its own items until they are through, while the worker drains.
+    Through,
+    /// Each queues 100 items over and over.
+    Often,
+}
+
+/// What one sender does. How often it woke the worker, or was answered that the queue drains.
+fn do_job<R: Abort + Wait>(
+    rt: &R,
+    sender: &mut Sender,
+    job: Job,
+    unparker: &Unparker,
+    met: &AtomicU64,
+) -> u32
+    ensures { sender.new.queue ≡ sender.old.queue }
+{
+    match job {
+        Job::Offer(offer) => queue_own(rt, sender, offer, unparker),
+        Job::Through => draining::queue_own(rt, sender, met),
+        Job::Often => queue_often(rt, sender),
+    }
+}
+
+/// Two senders do so, each in a thread.
+pub(crate) fn queue_pair<R: Abort + Threads + Wait + Sync>(
     rt: &R,
     first: &mut Sender,
     second: &mut Sender,
-    offer: Offer,
+    job: Job,
     unparker: &Unparker,
+    met: &AtomicU64,
 ) -> u32
     ensures { (first.new.queue ≡ first.old.queue) × (second.new.queue ≡ second.old.queue) }
 {
     let (one, two) = join_mut(
         rt,
-        &mut || queue_own(rt, first, offer, unparker),
-        &mut || queue_own(rt, second, offer, unparker),
+        &mut || do_job(rt, first, job, unparker, met),
+        &mut || do_job(rt, second, job, unparker, met),
     );
     one.wrapping_add(two)
 }
@@ -98,12 +131,24 @@ pub(crate) struct Crew {
     pub(crate) last: Sender,
 }
 
-/// Four senders queue their own items in threads, and then the last one the stop item. How often they woke the worker.
+/// The stop item is queued behind items that are offered. How often the worker was woken for it.
+fn stop_behind(sender: &mut Sender, job: Job, unparker: &Unparker) -> u32
+    ensures { sender.new.queue ≡ sender.old.queue }
+{
+    let Job::Offer(offer) = job else {
+        return 0;
+    };
+    let answer = sender.request_stop(u32::MAX);
+    wake(answer, offer.on, unparker)
+}
+
+/// Four senders do so in threads, and then the last one queues the stop item behind what was offered.
 fn queue_and_stop<R: Abort + Threads + Wait + Sync>(
     rt: &R,
     crew: &mut Crew,
-    offer: Offer,
+    job: Job,
     unparker: &Unparker,
+    met: &AtomicU64,
 ) -> u32
     ensures pairs { (crew.new.first.queue ≡ crew.old.first.queue) × (crew.new.second.queue ≡ crew.old.second.queue)
         × (crew.new.third.queue ≡ crew.old.third.queue) × (crew.new.fourth.queue ≡ crew.old.fourth.queue) }
@@ -111,12 +156,11 @@ fn queue_and_stop<R: Abort + Threads + Wait + Sync>(
 {
     let (one, two) = join_mut(
         rt,
-        &mut || queue_pair(rt, &mut crew.first, &mut crew.second, offer, unparker),
-        &mut || queue_pair(rt, &mut crew.third, &mut crew.fourth, offer, unparker),
+        &mut || queue_pair(rt, &mut crew.first, &mut crew.second, job, unparker, met),
+        &mut || queue_pair(rt, &mut crew.third, &mut crew.fourth, job, unparker, met),
     );
-    let answer = crew.last.request_stop(u32::MAX);
-    one.wrapping_add(two)
-        .wrapping_add(wake(answer, offer.on, unparker))
+    let last = stop_behind(&mut crew.last, job, unparker);
+    one.wrapping_add(two).wrapping_add(last)
 }
 
 /// The sender meets the book, and its ledger is put behind the others.
@@ -130,7 +174,7 @@ fn enter<R: Abort>(rt: &R, book: &mut Book, ledgers: &mut Vec<Ledger>, sender: &
     ledgers.push(ledger).expect(rt, "memory for a ledger");
 }
 
-pub(crate) fn new_crew<R: Abort>(rt: &R, owner: &Owner, senders: &mut Vec<Sender>) -> Crew
+fn new_crew<R: Abort>(rt: &R, owner: &Owner, senders: &mut Vec<Sender>) -> Crew
     requires { All (λ s. s.queue ≡ owner.now.queue) senders.old.items }
     ensures { (result.first.queue ≡ owner.now.queue) × (result.second.queue ≡ owner.now.queue)
         × (result.third.queue ≡ owner.now.queue) × (result.fourth.queue ≡ owner.now.queue) × (result.last.queue ≡ owner.now.queue) }
@@ -165,16 +209,22 @@ fn run_and_rest<R: Abort + Wait>(rt: &R, worker: &mut Worker<Fixed>, parker: &mu
     unreachable!()
 }
 
-/// Runs until the stop item ran: where it is woken on `wakes` alone the worker rests, and else it serves. How often it rested.
-fn run_until_stop<R: Abort + Wait>(
+/// Runs until the stop item ran, or drains until all is through: where it is woken on `wakes` alone the worker rests, and else it
+/// serves. How often it rested.
+fn run_until_over<R: Abort + Wait>(
     rt: &R,
     worker: &mut Worker<Fixed>,
     parker: &mut Parker,
-    on: Wakes,
+    met: &AtomicU64,
+    job: Job,
 ) -> u32
     ensures { worker.new.queue ≡ worker.old.queue }
 {
-    match on {
+    let Job::Offer(offer) = job else {
+        drain_until_through(rt, worker, met);
+        return 0;
+    };
+    match offer.on {
         Wakes::OnRest => run_and_rest(rt, worker, parker),
         Wakes::Always | Wakes::OnFirst => {
             serve(rt, worker, parker);
@@ -183,13 +233,14 @@ fn run_until_stop<R: Abort + Wait>(
     }
 }
 
-/// The worker runs beside its crew until the stop item ran. How often it rested, and how often it was woken.
+/// The worker runs beside its crew until all is over. How often it rested, and how often it was woken, or its crew was answered that
+/// the queue drains.
 pub(crate) fn run_beside<R: Abort + Threads + Wait + Sync>(
     rt: &R,
     alloc: Global,
     worker: &mut Worker<Fixed>,
     crew: &mut Crew,
-    offer: Offer,
+    job: Job,
 ) -> (u32, u32)
     ensures worker { worker.new.queue ≡ worker.old.queue }
     ensures pairs { (crew.new.first.queue ≡ crew.old.first.queue) × (crew.new.second.queue ≡ crew.old.second.queue)
@@ -197,19 +248,15 @@ pub(crate) fn run_beside<R: Abort + Threads + Wait + Sync>(
     ensures last { crew.new.last.queue ≡ crew.old.last.queue }
 {
     let (mut parker, unparker) = new_parker(rt, alloc);
+    let met = AtomicU64::new(0);
     join_mut(
         rt,
-        &mut || run_until_stop(rt, worker, &mut parker, offer.on),
-        &mut || queue_and_stop(rt, crew, offer, &unparker),
+        &mut || run_until_over(rt, worker, &mut parker, &met, job),
+        &mut || queue_and_stop(rt, crew, job, &unparker, &met),
     )
 }
 
-pub(crate) fn enter_all<R: Abort>(
-    rt: &R,
-    alloc: Global,
-    book: &mut Book,
-    crew: &mut Crew,
-) -> Vec<Ledger>
+fn enter_all<R: Abort>(rt: &R, alloc: Global, book: &mut Book, crew: &mut Crew) -> Vec<Ledger>
     requires { (crew.old.first.queue ≡ book.old.queue) × (crew.old.second.queue ≡ book.old.queue)
         × (crew.old.third.queue ≡ book.old.queue) × (crew.old.fourth.queue ≡ book.old.queue) × (crew.old.last.queue ≡ book.old.queue) }
     ensures { All (IsLedgerOf book.new.seen) result.items }
@@ -223,23 +270,44 @@ pub(crate) fn enter_all<R: Abort>(
     ledgers
 }
 
+/// A worker of a queue of so many items, with the last of six senders, and the five others.
+pub(crate) fn new_manned<R: Abort>(rt: &R, alloc: Global, items: u32) -> (Worker<Fixed>, Crew)
+    ensures { (result.1.first.queue ≡ result.0.queue) × (result.1.second.queue ≡ result.0.queue)
+        × (result.1.third.queue ≡ result.0.queue) × (result.1.fourth.queue ≡ result.0.queue) × (result.1.last.queue ≡ result.0.queue) }
+{
+    let (owner, mut senders) = new_queue(rt, alloc, items, 6);
+    let own = take_last(rt, &owner, &mut senders);
+    let crew = new_crew(rt, &owner, &mut senders);
+    (Worker::new(owner, own, Fixed::new(), 1), crew)
+}
+
+/// The crew meets the book, which balances.
+pub(crate) fn balance_crew<R: Abort>(
+    rt: &R,
+    alloc: Global,
+    book: &mut Book,
+    crew: &mut Crew,
+) -> Totals
+    requires { (crew.old.first.queue ≡ book.old.queue) × (crew.old.second.queue ≡ book.old.queue)
+        × (crew.old.third.queue ≡ book.old.queue) × (crew.old.fourth.queue ≡ book.old.queue) × (crew.old.last.queue ≡ book.old.queue) }
+{
+    let ledgers = enter_all(rt, alloc, book, crew);
+    book.balance(ledgers.as_slice()).expect(rt, "a balance")
+}
+
 /// Four senders queue 64 items each from threads of their own, and a fifth the stop item, while the worker serves.
 #[test]
 fn six_senders_balance(rt: HostRuntime) {
-    let (owner, mut senders) = new_queue(&rt, rt.alloc(), 256, 6);
-    let own = take_last(&rt, &owner, &mut senders);
-    let mut crew = new_crew(&rt, &owner, &mut senders);
-    let mut worker = Worker::new(owner, own, Fixed::new(), 1);
+    let (mut worker, mut crew) = new_manned(&rt, rt.alloc(), 256);
     let offer = Offer {
         own: 64,
         pauses: 0,
         on: Wakes::Always,
     };
-    run_beside(&rt, rt.alloc(), &mut worker, &mut crew, offer);
+    run_beside(&rt, rt.alloc(), &mut worker, &mut crew, Job::Offer(offer));
     let (work, mut book) = destroy(&rt, worker, 9);
     expect_same(&rt, work.order.len(), 256);
-    let ledgers = enter_all(&rt, rt.alloc(), &mut book, &mut crew);
-    let totals = book.balance(ledgers.as_slice()).expect(&rt, "a balance");
+    let totals = balance_crew(&rt, rt.alloc(), &mut book, &mut crew);
     expect_same(
         &rt,
         (totals.queued, totals.chained, totals.executed),

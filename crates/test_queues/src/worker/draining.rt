@@ -3,19 +3,33 @@ ghost use Rattle.std.specs.Prelude.{◌≡◌};
 
 use crate::expect::expect_same;
 use crate::seats::{FIRST, QUEUED, WAKES, queue_item};
-use crate::worker::crew::{Crew, enter_all, new_crew, queue_waiting};
-use crate::worker::team::{Fixed, destroy, new_queue, new_team, take_last};
+use crate::worker::crew::{Crew, Job, balance_crew, new_manned, queue_waiting, run_beside};
+use crate::worker::steps::{Step, play};
+use crate::worker::team::{Fixed, destroy, destroy_having_run, new_team};
 use std::alloc::Global;
 use std::process::Abort;
 use std::sync::Wait;
 use std::sync::atomic::AtomicU64;
 use std::sync::atomic::Ordering::SeqCst;
-use std::thread::{Threads, join_mut, yield_now};
+use std::thread::{Threads, yield_now};
 use wq_live::{Answer, Sender};
 use wq_worker::{Drained, Ran, Worker};
 
 /// How many items of its own each of four senders queues.
 const OWN: u32 = 16;
+
+/// Item 0 asks for item 1.
+const GOES_ON: &[Step] = &[
+    Step::Queue(0, WAKES),
+    Step::Drain(1, Drained::TooLong { left: 1 }),
+    Step::IsDraining(true),
+    Step::Queue(2, Answer::Draining),
+    Step::Drain(1, Drained::Empty),
+    Step::IsDraining(false),
+    Step::Queue(2, FIRST),
+    Step::Drain(0, Drained::TooLong { left: 1 }),
+    Step::Drain(9, Drained::Empty),
+];
 
 /// A drain that comes to its limit leaves the queue draining, and what is queued is answered so. The next one goes on, and resumes
 /// the queue once nothing is left.
@@ -24,39 +38,33 @@ fn drain_goes_on_and_resumes(rt: HostRuntime) {
     let mut work = Fixed::new();
     work.next = Some(1);
     let mut team = new_team(&rt, rt.alloc(), 4, work);
-    expect_same(&rt, queue_item(&rt, &mut team.first, 0), WAKES);
-    expect_same(&rt, team.worker.drain(1), Drained::TooLong { left: 1 });
-    assert!(rt; team.worker.is_draining());
-    expect_same(&rt, queue_item(&rt, &mut team.first, 2), Answer::Draining);
-    expect_same(&rt, team.worker.drain(1), Drained::Empty);
-    assert!(rt; !team.worker.is_draining());
-    expect_same(&rt, queue_item(&rt, &mut team.first, 2), FIRST);
-    expect_same(&rt, team.worker.drain(0), Drained::TooLong { left: 1 });
-    expect_same(&rt, team.worker.drain(9), Drained::Empty);
-    let (work, _book) = destroy(&rt, team.worker, 0);
-    expect_same(&rt, work.order.as_slice(), [0, 1, 2].as_slice());
+    play(&rt, &mut team.worker, &mut team.first, GOES_ON);
+    destroy_having_run(&rt, team.worker, 0, &[0, 1, 2]);
     let counts = team.first.counts();
     expect_same(&rt, (counts.queued, counts.draining), (2, 1));
 }
+
+const ENDS: &[Step] = &[
+    Step::Queue(0, WAKES),
+    Step::Queue(1, QUEUED),
+    Step::Drain(0, Drained::TooLong { left: 2 }),
+    Step::Run(Ran::Item(0)),
+];
 
 /// A step of a worker whose queue drains executes what waits. A destroy closes such a queue.
 #[test]
 fn destroy_ends_a_drain(rt: HostRuntime) {
     let mut team = new_team(&rt, rt.alloc(), 4, Fixed::new());
-    expect_same(&rt, queue_item(&rt, &mut team.first, 0), WAKES);
-    expect_same(&rt, queue_item(&rt, &mut team.first, 1), QUEUED);
-    expect_same(&rt, team.worker.drain(0), Drained::TooLong { left: 2 });
-    expect_same(&rt, team.worker.run_one(), Ran::Item(0));
-    let (work, _book) = destroy(&rt, team.worker, 1);
-    expect_same(&rt, work.order.as_slice(), [0, 1].as_slice());
+    play(&rt, &mut team.worker, &mut team.first, ENDS);
+    destroy_having_run(&rt, team.worker, 1, &[0, 1]);
     expect_same(&rt, queue_item(&rt, &mut team.first, 2), Answer::Closed);
 }
 
 /// Queues an item over and over, until it is queued. How often it was answered that the queue drains.
-fn queue_through<R: Abort + Wait>(rt: &R, sender: &mut Sender, item: u32) -> u128
+fn queue_through<R: Abort + Wait>(rt: &R, sender: &mut Sender, item: u32) -> u32
     ensures { sender.new.queue ≡ sender.old.queue }
 {
-    let mut drains = 0u128;
+    let mut drains = 0u32;
     for _ in rt.forever() {
         let answer = queue_waiting(rt, sender, item);
         if answer != Answer::Draining {
@@ -71,50 +79,21 @@ fn queue_through<R: Abort + Wait>(rt: &R, sender: &mut Sender, item: u32) -> u12
 
 /// Queues the sender's own items in order, each until it is through. The first queueing meets the drain that waits for it. How often
 /// it was answered that the queue drains.
-fn queue_own<R: Abort + Wait>(rt: &R, sender: &mut Sender, met: &AtomicU64) -> u128
+pub(crate) fn queue_own<R: Abort + Wait>(rt: &R, sender: &mut Sender, met: &AtomicU64) -> u32
     ensures { sender.new.queue ≡ sender.old.queue }
 {
     let first = sender.number().wrapping_mul(OWN);
     expect_same(rt, queue_waiting(rt, sender, first), Answer::Draining);
     met.fetch_add(1, SeqCst);
-    let mut drains = 1u128;
+    let mut drains = 1u32;
     for item in first..first.wrapping_add(OWN) {
         drains = drains.wrapping_add(queue_through(rt, sender, item));
     }
     drains
 }
 
-fn queue_pair<R: Abort + Threads + Wait + Sync>(
-    rt: &R,
-    first: &mut Sender,
-    second: &mut Sender,
-    met: &AtomicU64,
-) -> u128
-    ensures { (first.new.queue ≡ first.old.queue) × (second.new.queue ≡ second.old.queue) }
-{
-    let (one, two) = join_mut(
-        rt,
-        &mut || queue_own(rt, first, met),
-        &mut || queue_own(rt, second, met),
-    );
-    one.wrapping_add(two)
-}
-
-fn queue_all<R: Abort + Threads + Wait + Sync>(rt: &R, crew: &mut Crew, met: &AtomicU64) -> u128
-    ensures pairs { (crew.new.first.queue ≡ crew.old.first.queue) × (crew.new.second.queue ≡ crew.old.second.queue)
-        × (crew.new.third.queue ≡ crew.old.third.queue) × (crew.new.fourth.queue ≡ crew.old.fourth.queue) }
-    ensures last { crew.new.last.queue ≡ crew.old.last.queue }
-{
-    let (one, two) = join_mut(
-        rt,
-        &mut || queue_pair(rt, &mut crew.first, &mut crew.second, met),
-        &mut || queue_pair(rt, &mut crew.third, &mut crew.fourth, met),
-    );
-    one.wrapping_add(two)
-}
-
 /// Drains, by up to two executions a call once each sender has met the drain, until as many have ended as are queued.
-fn drain_until_through<R: Wait>(rt: &R, worker: &mut Worker<Fixed>, met: &AtomicU64)
+pub(crate) fn drain_until_through<R: Wait>(rt: &R, worker: &mut Worker<Fixed>, met: &AtomicU64)
     ensures { worker.new.queue ≡ worker.old.queue }
 {
     for _ in rt.forever() {
@@ -134,9 +113,10 @@ fn drain_until_through<R: Wait>(rt: &R, worker: &mut Worker<Fixed>, met: &Atomic
 /// How often they were answered that the queue drains.
 fn drain_beside<R: Abort + Threads + Wait + Sync>(
     rt: &R,
+    alloc: Global,
     worker: &mut Worker<Fixed>,
     crew: &mut Crew,
-) -> u128
+) -> u32
     ensures worker { worker.new.queue ≡ worker.old.queue }
     ensures pairs { (crew.new.first.queue ≡ crew.old.first.queue) × (crew.new.second.queue ≡ crew.old.second.queue)
         × (crew.new.third.queue ≡ crew.old.third.queue) × (crew.new.fourth.queue ≡ crew.old.fourth.queue) }
@@ -144,12 +124,7 @@ fn drain_beside<R: Abort + Threads + Wait + Sync>(
 {
     expect_same(rt, crew.last.request_stop(1), WAKES);
     expect_same(rt, worker.drain(0), Drained::TooLong { left: 1 });
-    let met = AtomicU64::new(0);
-    let (_, drains) = join_mut(
-        rt,
-        &mut || drain_until_through(rt, worker, &met),
-        &mut || queue_all(rt, crew, &met),
-    );
+    let (_, drains) = run_beside(rt, alloc, worker, crew, Job::Through);
     drains
 }
 
@@ -169,18 +144,18 @@ fn ran_in_order(order: &[u32]) -> bool {
 /// Four senders queue from threads of their own, each item until it is through, while the worker drains and resumes. Each meets one
 /// drain at least.
 fn run_once<R: Abort + Threads + Wait + Sync>(rt: &R, alloc: Global) {
-    let (owner, mut senders) = new_queue(rt, alloc, OWN * 4, 6);
-    let own = take_last(rt, &owner, &mut senders);
-    let mut crew = new_crew(rt, &owner, &mut senders);
-    let mut worker = Worker::new(owner, own, Fixed::new(), 1);
-    let drains = drain_beside(rt, &mut worker, &mut crew);
+    let (mut worker, mut crew) = new_manned(rt, alloc, OWN * 4);
+    let drains = drain_beside(rt, alloc, &mut worker, &mut crew);
     assert!(rt; !worker.is_draining());
     let (work, mut book) = destroy(rt, worker, 0);
     assert!(rt; ran_in_order(work.order.as_slice()));
-    let ledgers = enter_all(rt, alloc, &mut book, &mut crew);
-    let totals = book.balance(ledgers.as_slice()).expect(rt, "a balance");
+    let totals = balance_crew(rt, alloc, &mut book, &mut crew);
     expect_same(rt, (totals.queued, totals.executed), (65, 65));
-    expect_same(rt, (totals.draining, totals.closed), (drains, 0));
+    expect_same(
+        rt,
+        (totals.draining, totals.closed),
+        (u128::from(drains), 0),
+    );
     assert!(rt; drains >= 4, "{drains}");
 }
 

@@ -3,8 +3,8 @@ ghost use Rattle.wq_worker.specs.Resting.{HasNoneLeft};
 
 use crate::expect::expect_same;
 use crate::seats::{FIRST, WAKES, queue_item};
-use crate::worker::crew::{Offer, Wakes, new_crew, run_beside};
-use crate::worker::team::{Fixed, Team, destroy, new_queue, new_team, take_last};
+use crate::worker::crew::{Job, Offer, Wakes, new_manned, run_beside};
+use crate::worker::team::{Fixed, Team, destroy, new_team};
 use std::alloc::Global;
 use std::process::Abort;
 use std::sync::Wait;
@@ -18,16 +18,13 @@ fn run_once<R: Abort + Threads + Wait + Sync>(
     alloc: Global,
     on: Wakes,
 ) -> (u32, u32, usize) {
-    let (owner, mut senders) = new_queue(rt, alloc, 16, 6);
-    let own = take_last(rt, &owner, &mut senders);
-    let mut crew = new_crew(rt, &owner, &mut senders);
-    let mut worker = Worker::new(owner, own, Fixed::new(), 1);
+    let (mut worker, mut crew) = new_manned(rt, alloc, 16);
     let offer = Offer {
         own: 4,
         pauses: 7,
         on,
     };
-    let (rests, wakes) = run_beside(rt, alloc, &mut worker, &mut crew, offer);
+    let (rests, wakes) = run_beside(rt, alloc, &mut worker, &mut crew, Job::Offer(offer));
     let (work, _book) = destroy(rt, worker, 0);
     (rests, wakes, work.order.len())
 }

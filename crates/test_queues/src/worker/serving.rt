@@ -1,7 +1,7 @@
 //! A worker that serves in a thread, and parks where nothing waits.
 use crate::expect::expect_same;
 use crate::seats::queue_item;
-use crate::worker::team::{Fixed, is_pending, new_parker, new_team, serve, stop};
+use crate::worker::team::{Fixed, Team, is_pending, new_parker, new_team, serve, stop};
 use crossbeam_utils::sync::Unparker;
 use std::alloc::Global;
 use std::process::Abort;
@@ -10,27 +10,67 @@ use std::thread::{Threads, join, sleep, yield_now};
 use std::time::{Clock, Duration};
 use wq_live::{Answer, Sender};
 
-/// Queues an item after a while, and then the stop item.
-fn queue_late<R: Abort>(rt: &R, sender: &mut Sender, unparker: &Unparker) -> (Answer, Answer) {
+/// What a sender does beside a worker that serves.
+#[derive(Clone, Copy)]
+enum Beside {
+    Late,
+    Unseen,
+    Barriers,
+}
+
+fn is_queued(answer: Answer) -> bool {
+    matches!(answer, Answer::Queued { .. })
+}
+
+/// Queues an item after a while, and then the stop item. Whether each was queued.
+fn queue_late<R: Abort>(rt: &R, sender: &mut Sender, unparker: &Unparker) -> (bool, bool) {
     for _ in 0..1000u32 {
         yield_now();
     }
     let answer = queue_item(rt, sender, 1);
     unparker.unpark();
-    (answer, stop(sender, unparker))
+    (is_queued(answer), is_queued(stop(sender, unparker)))
+}
+
+/// What a sender does, and whether it saw what it is to see.
+fn send<R: Abort + Clock>(
+    rt: &R,
+    sender: &mut Sender,
+    unparker: &Unparker,
+    what: Beside,
+) -> (bool, bool) {
+    match what {
+        Beside::Late => queue_late(rt, sender, unparker),
+        Beside::Unseen => {
+            let answer = stop_unseen(rt, sender, unparker);
+            (answer == Answer::Pending, true)
+        }
+        Beside::Barriers => look_behind_barriers(rt, sender, unparker),
+    }
+}
+
+/// The worker serves, and its first sender does so beside it.
+fn serve_beside<R: Abort + Clock + Threads + Wait + Sync>(
+    rt: &R,
+    alloc: Global,
+    team: &mut Team<Fixed>,
+    what: Beside,
+) -> (bool, bool) {
+    let (mut parker, unparker) = new_parker(rt, alloc);
+    let (_, seen) = join(
+        rt,
+        || serve(rt, &mut team.worker, &mut parker),
+        || send(rt, &mut team.first, &unparker, what),
+    );
+    seen
 }
 
 /// A worker that serves parks where nothing waits, is unparked, and ends with the stop item.
 #[test]
 fn served_worker_is_unparked(rt: HostRuntime) {
-    let (mut parker, unparker) = new_parker(&rt, rt.alloc());
     let mut team = new_team(&rt, rt.alloc(), 4, Fixed::new());
-    let (_, answers) = join(
-        &rt,
-        || serve(&rt, &mut team.worker, &mut parker),
-        || queue_late(&rt, &mut team.first, &unparker),
-    );
-    assert!(rt; matches!(answers, (Answer::Queued { .. }, Answer::Queued { .. })));
+    let queued = serve_beside(&rt, rt.alloc(), &mut team, Beside::Late);
+    expect_same(&rt, queued, (true, true));
     expect_same(&rt, team.worker.counts().executed, 2);
 }
 
@@ -54,14 +94,8 @@ fn stop_unseen<R: Abort + Clock>(rt: &R, sender: &mut Sender, unparker: &Unparke
 
 /// Whether a worker that serves does not see a stop item before it is unparked.
 fn parks<R: Abort + Clock + Threads + Wait + Sync>(rt: &R, alloc: Global) -> bool {
-    let (mut parker, unparker) = new_parker(rt, alloc);
     let mut team = new_team(rt, alloc, 4, Fixed::new());
-    let (_, answer) = join(
-        rt,
-        || serve(rt, &mut team.worker, &mut parker),
-        || stop_unseen(rt, &mut team.first, &unparker),
-    );
-    answer == Answer::Pending
+    serve_beside(rt, alloc, &mut team, Beside::Unseen).0
 }
 
 /// A worker that serves is parked where nothing waits: it does not see the stop item until it is unparked. Where the machine is
@@ -109,16 +143,11 @@ fn look_behind_barriers<R: Abort + Clock>(
 /// both as it begins to serve, or is unparked for both.
 #[test]
 fn served_worker_goes_on_behind_a_barrier(rt: HostRuntime) {
-    let (mut parker, unparker) = new_parker(&rt, rt.alloc());
     let mut team = new_team(&rt, rt.alloc(), 4, Fixed::new());
     assert!(rt; 0 < team.second.layout().barriers);
     team.second.flush_begin(0, 1);
     queue_item(&rt, &mut team.second, 1);
-    let (_, begun) = join(
-        &rt,
-        || serve(&rt, &mut team.worker, &mut parker),
-        || look_behind_barriers(&rt, &mut team.first, &unparker),
-    );
+    let begun = serve_beside(&rt, rt.alloc(), &mut team, Beside::Barriers);
     expect_same(&rt, begun, (true, true));
     expect_same(&rt, team.worker.counts().executed, 5);
 }

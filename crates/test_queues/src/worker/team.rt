@@ -2,6 +2,7 @@
 ghost use Rattle.std.specs.Prelude.{◌≡◌, [], All};
 ghost use Rattle.wq_words.specs.History.{begun};
 
+use crate::expect::expect_same;
 use arrayvec::ArrayVec;
 use crossbeam_utils::sync::{Parker, Unparker};
 use std::alloc::Global;
@@ -107,6 +108,17 @@ pub(crate) fn destroy<R: Abort, W: Work>(rt: &R, worker: Worker<W>, limit: u32) 
     ensures { result.1.queue ≡ worker.queue }
 {
     worker.destroy(limit).expect(rt, "a drained queue")
+}
+
+/// Destroys a worker, whose work has run these items then.
+pub(crate) fn destroy_having_run<R: Abort>(
+    rt: &R,
+    worker: Worker<Fixed>,
+    limit: u32,
+    order: &[u32],
+) {
+    let (work, _book) = destroy(rt, worker, limit);
+    expect_same(rt, work.order.as_slice(), order);
 }
 
 pub(crate) fn serve<R: Abort + Wait, W: Work>(rt: &R, worker: &mut Worker<W>, parker: &mut Parker)

@@ -1,7 +1,0 @@
-use Rattle.std.proofs.Common.{sym, subst}
-use Rattle.std.specs.Prelude.{All}
-use Rattle.wq_ledger.specs.Book.{IsLedgerOf}
-use Rattle.test_queues.proofs.worker.draining.run_once.Goals as goal
-
-pub balance-requires : goal.balance-requires
-balance-requires g c = subst (All (IsLedgerOf c.enter_all-ledgers.new.book.seen)) (sym c.as_slice-2.ensures.value) c.enter_all-ledgers.ensures
