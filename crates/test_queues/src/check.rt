@@ -158,11 +158,15 @@ const EVENTS: &[(&[Event], Option<EventError>)] = &[
     ),
 ];
 
+fn new_checker<R: Abort>(rt: &R, alloc: Global) -> Checker {
+    let layout = Layout::new(2, 1, 2).expect(rt, "a layout");
+    Checker::new(alloc, layout).expect(rt, "a checker")
+}
+
 #[test]
 fn causes_of_events(rt: HostRuntime) {
-    let layout = Layout::new(2, 1, 2).expect(&rt, "a layout");
     for &(history, error) in EVENTS {
-        let mut checker = Checker::new(rt.alloc(), layout).expect(&rt, "a checker");
+        let mut checker = new_checker(&rt, rt.alloc());
         check(&rt, &mut checker, history, error);
     }
 }
@@ -203,8 +207,7 @@ type Stage = (
 
 /// The stages one after another, of one checker.
 fn check_stages<R: Abort>(rt: &R, alloc: Global, stages: &[Stage]) {
-    let layout = Layout::new(2, 1, 2).expect(rt, "a layout");
-    let mut checker = Checker::new(alloc, layout).expect(rt, "a checker");
+    let mut checker = new_checker(rt, alloc);
     for &(history, error, report, left) in stages {
         check(rt, &mut checker, history, error);
         expect_same(rt, checker.report(), report);
@@ -422,11 +425,15 @@ fn check_marks<R: Abort>(
     expect_same(rt, (trace.len(), refused), (trace.len(), error));
 }
 
+fn new_trace_checker<R: Abort>(rt: &R, alloc: Global) -> TraceChecker {
+    let layout = Layout::new(2, 1, 1).expect(rt, "a layout");
+    TraceChecker::new(alloc, layout).expect(rt, "a checker")
+}
+
 #[test]
 fn causes_of_marks(rt: HostRuntime) {
-    let layout = Layout::new(2, 1, 1).expect(&rt, "a layout");
     for &(trace, error) in MARKS {
-        let mut checker = TraceChecker::new(rt.alloc(), layout).expect(&rt, "a checker");
+        let mut checker = new_trace_checker(&rt, rt.alloc());
         check_marks(&rt, &mut checker, trace, error);
     }
 }
@@ -434,8 +441,7 @@ fn causes_of_marks(rt: HostRuntime) {
 #[test]
 fn report_of_a_trace(rt: HostRuntime) {
     use wq_check::Mark::{End, Queue, Start};
-    let layout = Layout::new(2, 1, 1).expect(&rt, "a layout");
-    let mut checker = TraceChecker::new(rt.alloc(), layout).expect(&rt, "a checker");
+    let mut checker = new_trace_checker(&rt, rt.alloc());
     check_marks(
         &rt,
         &mut checker,

@@ -2,8 +2,7 @@
 ghost use Rattle.std.specs.Prelude.{◌≡◌};
 
 use super::worker::{
-    Keeping, Step, TWO_BACK, Team, destroy, four_pairs, new_team, new_worker, play_out, queue,
-    take_last,
+    Keeping, Step, TWO_BACK, Team, destroy, four_pairs, new_team, play_out, queue,
 };
 use crate::expect::expect_same;
 use crate::seats::FIRST;
@@ -126,17 +125,23 @@ fn expect_in_order<R: Abort>(rt: &R, ran: &[(u32, u64)]) {
     expect_same(rt, next, (OWN, OWN * 2));
 }
 
-fn serve_once<R: Abort + Threads + Wait + Sync>(rt: &R, alloc: Global, spins: Spins) {
-    let work = Keeping::asking(rt, alloc, ValueFollow::new());
-    let (mut worker, mut senders) = new_worker(rt, alloc, OWN * 2, work);
-    let mut second = take_last(rt, &worker, &mut senders);
-    let mut first = take_last(rt, &worker, &mut senders);
-    worker.set_spins(spins);
-    serve_beside(rt, alloc, &mut worker, &mut first, &mut second);
+/// A worker that has served is destroyed with nothing left.
+fn check_served<R: Abort>(rt: &R, worker: ValueWorker<u64, Keeping<'_, R, u64>>) {
     expect_same(rt, worker.counts().executed, 129);
     let (work, _book) = destroy(rt, worker, 0);
     expect_in_order(rt, work.ran.as_slice());
     expect_same(rt, work.came_back.len(), 0);
+}
+
+fn serve_once<R: Abort + Threads + Wait + Sync>(rt: &R, alloc: Global, spins: Spins) {
+    let Team {
+        mut worker,
+        mut first,
+        mut second,
+    } = new_team(rt, alloc, OWN * 2, ValueFollow::new());
+    worker.set_spins(spins);
+    serve_beside(rt, alloc, &mut worker, &mut first, &mut second);
+    check_served(rt, worker);
 }
 
 /// A worker that serves runs all that two senders queue in threads, each item with its value, is woken where it has parked, and ends
@@ -173,7 +178,7 @@ fn runs_up_to_a_limit(rt: HostRuntime) {
         mut worker,
         mut first,
         mut second,
-    } = new_team(&rt, rt.alloc(), four_pairs(&rt));
+    } = new_team(&rt, rt.alloc(), 8, four_pairs(&rt));
     queue(&rt, &mut first, 0, 7);
     queue(&rt, &mut second, 2, 20);
     expect_same(&rt, worker.run_some(0), 0);

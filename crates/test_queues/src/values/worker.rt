@@ -89,7 +89,7 @@ pub(super) fn take_last<R: Abort, V: Drop, W: ValueWork<V>>(
     senders.pop().expect(rt, "a sender")
 }
 
-/// A worker with the last of three senders of a queue of eight items, and the two others.
+/// A worker with the last of three senders of a queue, and the two others.
 #[derive(Drop)]
 pub(super) struct Team<'a, R: Abort, V: Drop> {
     pub(super) worker: ValueWorker<V, Keeping<'a, R, V>>,
@@ -97,16 +97,17 @@ pub(super) struct Team<'a, R: Abort, V: Drop> {
     pub(super) second: ValueSender<V>,
 }
 
-/// A team whose work asks for these pairs.
+/// A team of a queue of so many items, whose work asks for these pairs.
 pub(super) fn new_team<'a, R: Abort, V: Drop>(
     rt: &'a R,
     alloc: Global,
+    items: u32,
     asks: ValueFollow<V>,
 ) -> Team<'a, R, V>
     ensures first { result.first.known.queue ≡ result.worker.worker.queue }
     ensures second { result.second.known.queue ≡ result.worker.worker.queue }
 {
-    let (worker, mut senders) = new_worker(rt, alloc, 8, Keeping::asking(rt, alloc, asks));
+    let (worker, mut senders) = new_worker(rt, alloc, items, Keeping::asking(rt, alloc, asks));
     let second = take_last(rt, &worker, &mut senders);
     let first = take_last(rt, &worker, &mut senders);
     Team {
@@ -235,7 +236,7 @@ pub(super) fn play_out<R: Abort>(
 /// Each item runs with the value that it was queued with, in the order of the queueings, whichever sender's.
 #[test]
 fn each_runs_with_its_value(rt: HostRuntime) {
-    let team = new_team(&rt, rt.alloc(), ValueFollow::new());
+    let team = new_team(&rt, rt.alloc(), 8, ValueFollow::new());
     play_out(&rt, team, EACH, 0, EACH_RAN, &[]);
 }
 
@@ -309,7 +310,7 @@ const DOORS: &[&[Step]] = &[
 #[test]
 fn pairs_are_queued_or_come_back(rt: HostRuntime) {
     for &steps in DOORS {
-        let team = new_team(&rt, rt.alloc(), four_pairs(&rt));
+        let team = new_team(&rt, rt.alloc(), 8, four_pairs(&rt));
         play_out(&rt, team, steps, 0, FOUR_RAN, TWO_BACK);
     }
 }
@@ -321,7 +322,7 @@ fn destroy_goes_on_with_values(rt: HostRuntime) {
         worker,
         mut first,
         mut second,
-    } = new_team(&rt, rt.alloc(), four_pairs(&rt));
+    } = new_team(&rt, rt.alloc(), 8, four_pairs(&rt));
     queue(&rt, &mut first, 0, 7u64);
     queue(&rt, &mut second, 2, 20);
     let unfinished = destroy_some(&rt, worker, 1);

@@ -19,7 +19,7 @@ fn three_pairs<R: Abort>(rt: &R, shared: &Arc<u32>) -> ValueFollow<Arc<u32>> {
 
 /// A team on whose queue items 0, 1 and 2 stand, and whose item 0 asks for three pairs.
 fn start<'a, R: Abort>(rt: &'a R, alloc: Global, shared: &Arc<u32>) -> Team<'a, R, Arc<u32>> {
-    let mut team = new_team(rt, alloc, three_pairs(rt, shared));
+    let mut team = new_team(rt, alloc, 8, three_pairs(rt, shared));
     for item in 0..3u32 {
         queue(rt, &mut team.first, item, share(rt, shared));
     }
