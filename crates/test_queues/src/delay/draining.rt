@@ -264,13 +264,18 @@ fn drain_through(owner: &mut Owner) -> bool {
     false
 }
 
+/// Puts each item on the table, at a tick of its own.
+fn arm_each<R: Abort>(rt: &R, delay: &mut Delay) {
+    for item in 0..ITEMS {
+        let ticks = u64::from(item).saturating_add(1);
+        expect_same(rt, arm(delay, item, ticks), Some(Armed::OnTable));
+    }
+}
+
 /// Lets all items go beside drains: how many advances left something that was due.
 fn all_goes_out<R: Abort + Threads + Sync>(rt: &R, alloc: Global) -> u32 {
     let (mut owner, _sender, mut delay) = delayed(rt, alloc, ITEMS, 0);
-    for item in 0..ITEMS {
-        let ticks = u64::from(item).saturating_add(1);
-        expect_same(rt, arm(&mut delay, item, ticks), Some(Armed::OnTable));
-    }
+    arm_each(rt, &mut delay);
     let (left, executed) = join(
         rt,
         || advance_through(&mut delay),

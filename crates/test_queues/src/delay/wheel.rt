@@ -22,13 +22,18 @@ fn arm_all<R: Abort>(rt: &R, delay: &mut Delay) {
     }
 }
 
+/// Each jump pushes so many, and looks at so many slots.
+fn check_jumps<R: Abort>(rt: &R, delay: &mut Delay) {
+    expect_same(rt, delay.looked(), 0);
+    for &(now, said, looked) in JUMPED {
+        expect_same(rt, (now, advance(delay, now)), (now, said));
+        expect_same(rt, (now, delay.looked()), (now, looked));
+    }
+}
+
 #[test]
 fn looks_at_one_slot_a_tick(rt: HostRuntime) {
     let (_owner, _sender, mut delay) = delayed(&rt, rt.alloc(), 4, 0);
     arm_all(&rt, &mut delay);
-    expect_same(&rt, delay.looked(), 0);
-    for &(now, said, looked) in JUMPED {
-        expect_same(&rt, advance(&mut delay, now), said);
-        expect_same(&rt, delay.looked(), looked);
-    }
+    check_jumps(&rt, &mut delay);
 }

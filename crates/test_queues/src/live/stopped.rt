@@ -179,23 +179,18 @@ fn end_beside<R: Abort + Threads + Sync>(
     Some(others)
 }
 
-/// Runs the others beside a sender that stops at this place. They come to this, and it is answered so.
-fn check_stop<R: Abort + Threads + Sync>(
-    rt: &R,
-    alloc: Global,
-    place: u32,
-    drains: bool,
-    want: (Others, [Answer; 3]),
-) {
+/// What the others come to, and what a sender is answered that stops.
+type Said = (Option<Others>, Option<[Answer; 3]>);
+
+/// Runs the others beside a sender that stops at this place.
+fn stop_at<R: Abort + Threads + Sync>(rt: &R, alloc: Global, place: u32, drains: bool) -> Said {
     let (mut owner, mut stopped, mut other) = seats(rt, alloc, 72, 1);
     let latch = Latch::new();
-    let (others, said) = join(
+    join(
         rt,
         || end_beside(rt, &mut owner, &mut other, &latch, drains),
         || queue_in_steps(&mut stopped, place, &latch),
-    );
-    expect_same(rt, (place, others), (place, Some(want.0)));
-    expect_same(rt, (place, said), (place, Some(want.1)));
+    )
 }
 
 /// What the other is answered where a sender stops at each place, how many are accepted, and what the sender is answered of its first
@@ -222,8 +217,9 @@ fn others_end_while_a_sender_stops(rt: HostRuntime) {
             ended: Some(u64::from(accepted)),
             is_drained: false,
         };
-        let answers = [one, two, Answer::Closed];
-        check_stop(&rt, rt.alloc(), place, false, (others, answers));
+        let said = stop_at(&rt, rt.alloc(), place, false);
+        let wanted = (Some(others), Some([one, two, Answer::Closed]));
+        expect_same(&rt, (place, said), (place, wanted));
     }
 }
 
@@ -287,9 +283,9 @@ fn queue_beside_owner<R: Abort + Threads + Sync>(
 #[test]
 fn senders_end_while_the_owner_stops(rt: HostRuntime) {
     let (mut owner, mut first, mut second) = seats(&rt, rt.alloc(), 72, 1);
-    let (answers, executed) = queue_beside_owner(&rt, &mut owner, &mut first, &mut second, false);
-    expect_same(&rt, answers, Some((FIRST, Answer::Pending, 32, 32)));
-    expect_same(&rt, executed, Some(66));
+    let said = queue_beside_owner(&rt, &mut owner, &mut first, &mut second, false);
+    let answers = Some((FIRST, Answer::Pending, 32, 32));
+    expect_same(&rt, said, (answers, Some(66)));
     expect_same(&rt, close(&mut owner), Some(0));
     expect_same(&rt, owner.done(), Some(Done { ended: 67 }));
 }

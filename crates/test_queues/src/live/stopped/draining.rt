@@ -5,7 +5,7 @@ use super::super::steps::Act::{Begin, Close, Drain, Execute};
 use super::super::steps::Ask::{FlushWait, Post, Queue, QueueWait};
 use super::super::steps::Step::{self, Ask, Done as Ends, Own, Resume};
 use super::super::steps::{Asked, ask_all, new_seats, play};
-use super::{Others, check_stop, hold, queue_and_execute, queue_beside_owner};
+use super::{Others, hold, queue_and_execute, queue_beside_owner, stop_at};
 use crate::expect::expect_same;
 use crate::latch::Latch;
 use crate::seats::{FIRST, QUEUED, WAKES, queue_once, seats};
@@ -148,8 +148,9 @@ fn others_drain_while_a_sender_stops(rt: HostRuntime) {
             ended: None,
             is_drained: true,
         };
-        let answers = [one, two, Answer::Draining];
-        check_stop(&rt, rt.alloc(), place, true, (others, answers));
+        let said = stop_at(&rt, rt.alloc(), place, true);
+        let wanted = (Some(others), Some([one, two, Answer::Draining]));
+        expect_same(&rt, (place, said), (place, wanted));
     }
 }
 
@@ -166,20 +167,21 @@ pub(super) fn drain_and_stop<R: Abort>(rt: &R, owner: &mut Owner, latch: &Latch)
     Some(end_drain(rt, owner))
 }
 
+/// What is queued after the drain is queued, and executed.
+fn check_end<R: Abort>(rt: &R, owner: &mut Owner, sender: &mut Sender) {
+    expect_same(rt, queue_once(sender, 8), Some(FIRST));
+    expect_same(rt, close(owner), Some(1));
+    expect_same(rt, execute_one(owner), Some(8));
+    expect_same(rt, owner.done(), Some(Done { ended: 4 }));
+}
+
 /// The owner stops within a drain, while an item runs and another waits. Both senders come to their ends before it goes on, with
 /// nothing queued. It ends the drain, and what they queue then is queued.
 #[test]
 fn senders_end_while_the_owner_stops(rt: HostRuntime) {
     let (mut owner, mut first, mut second) = seats(&rt, rt.alloc(), 72, 1);
-    let (answers, executed) = queue_beside_owner(&rt, &mut owner, &mut first, &mut second, true);
-    expect_same(
-        &rt,
-        answers,
-        Some((Answer::Draining, Answer::Pending, 0, 0)),
-    );
-    expect_same(&rt, executed, Some(2));
-    expect_same(&rt, queue_once(&mut first, 8), Some(FIRST));
-    expect_same(&rt, close(&mut owner), Some(1));
-    expect_same(&rt, execute_one(&mut owner), Some(8));
-    expect_same(&rt, owner.done(), Some(Done { ended: 4 }));
+    let said = queue_beside_owner(&rt, &mut owner, &mut first, &mut second, true);
+    let answers = Some((Answer::Draining, Answer::Pending, 0, 0));
+    expect_same(&rt, said, (answers, Some(2)));
+    check_end(&rt, &mut owner, &mut first);
 }
