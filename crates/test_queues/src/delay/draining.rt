@@ -84,7 +84,8 @@ fn step_table<R: Abort>(rt: &R, delay: &mut Delay, place: usize, step: Step) {
         }
         Step::OnTable(all) => check_table(rt, delay, &all),
         Step::Due(tick, wanted) => check_due(rt, delay, tick, &wanted),
-        _ => {}
+        Step::Queue(..) | Step::Resume(_) | Step::Close(_) | Step::Execute(_) | Step::StillThere =>
+            {}
     }
 }
 
