@@ -1,9 +1,7 @@
 //! The example of a user's own logs.
 use example_log::{Line, Log, Message, Written, write};
-use std::alloc::{AllocError, Global};
-use std::sync::Wait;
-use std::test::Fail;
-use std::thread::Threads;
+use std::alloc::Global;
+use std::process::Abort;
 use wq_words::Layout;
 
 const RUNS: u32 = 20;
@@ -27,73 +25,68 @@ fn line_of(client: u8, number: u8) -> [u8; 4] {
     [client, b'0' + number / 10 % 10, b'0' + number % 10, b'\n']
 }
 
+/// The number of the message that is this one, from 0 on, of those that a client sends to a log.
+fn number_of(log: Log, place: u8) -> u8 {
+    match log {
+        Log::Errors => place.wrapping_mul(3),
+        Log::Access => place.wrapping_add(place / 2).wrapping_add(1),
+    }
+}
+
+/// How many messages a client sends to a log.
+fn sent_to(log: Log) -> u8 {
+    match log {
+        Log::Errors => MESSAGES / 3,
+        Log::Access => MESSAGES / 3 * 2,
+    }
+}
+
 /// What a client sends.
-fn messages_of(alloc: Global, client: u8) -> Result<Vec<Message>, AllocError> {
+fn messages_of<R: Abort>(rt: &R, alloc: Global, client: u8) -> Vec<Message> {
     let mut messages = Vec::new(alloc);
     for number in 0..MESSAGES {
-        let line: Line = Vec::from_array(alloc, line_of(client, number))?;
-        messages.push(Message {
-            log: log_of(number),
-            line,
-        })?;
+        let line: Line = Vec::from_array(alloc, line_of(client, number)).expect(rt, "memory");
+        let log = log_of(number);
+        messages.push(Message { log, line }).expect(rt, "memory");
     }
-    Ok(messages)
+    messages
 }
 
-/// Of the lines of a text, those of one client.
-fn lines_of(alloc: Global, text: &[u8], client: u8) -> Result<Vec<u8>, AllocError> {
-    let mut lines = Vec::new(alloc);
+/// Of the lines of a text, those of one client are what it sends to the log, in its order.
+fn has_all_of(text: &[u8], client: u8, log: Log) -> bool {
+    let mut place = 0u8;
     for line in text.chunks(LENGTH) {
         if line.first() == Some(&client) {
-            lines.extend_from_slice(line)?;
+            if line != line_of(client, number_of(log, place)).as_slice() {
+                return false;
+            }
+            place = place.wrapping_add(1);
         }
     }
-    Ok(lines)
-}
-
-/// The lines that a client sends to a log, one behind the other.
-fn sent_to(alloc: Global, client: u8, log: Log) -> Result<Vec<u8>, AllocError> {
-    let mut lines = Vec::new(alloc);
-    for number in 0..MESSAGES {
-        if log_of(number) == log {
-            lines.extend_from_slice(&line_of(client, number))?;
-        }
-    }
-    Ok(lines)
+    place == sent_to(log)
 }
 
 /// A log has the lines of both clients, each client's in their order, and no others.
-fn has_all(alloc: Global, written: &Written, log: Log) -> Result<bool, AllocError> {
+fn has_all(written: &Written, log: Log) -> bool {
     let text = written.text.as_slice();
-    let mut length = 0usize;
-    for client in [b'1', b'2'] {
-        let sent = sent_to(alloc, client, log)?;
-        if lines_of(alloc, text, client)?.as_slice() != sent.as_slice() {
-            return Ok(false);
-        }
-        length = length.wrapping_add(sent.len());
-    }
     let all = MESSAGES as usize;
-    Ok(text.len() == length && written.of_first == all && written.of_second == all)
-}
-
-/// What two clients send to both logs.
-fn logs_of_a_run<R: Threads + Wait + Sync>(
-    rt: &R,
-    alloc: Global,
-) -> Result<(Written, Written), Fail> {
-    let first = messages_of(alloc, b'1')?;
-    let second = messages_of(alloc, b'2')?;
-    Ok(write(rt, alloc, Layout::new(8, 1, 4)?, first, second)?)
+    has_all_of(text, b'1', log)
+        && has_all_of(text, b'2', log)
+        && text.len() == sent_to(log) as usize * LENGTH * 2
+        && written.of_first == all
+        && written.of_second == all
 }
 
 /// Both logs have all lines of both clients, each client's in its order, each time.
 #[test]
-fn both_logs_have_all_lines(rt: HostRuntime) -> Result<(), Fail> {
+fn both_logs_have_all_lines(rt: HostRuntime) {
     for _run in 0..RUNS {
-        let (access, errors) = logs_of_a_run(&rt, rt.alloc())?;
-        assert!(rt; has_all(rt.alloc(), &access, Log::Access)?);
-        assert!(rt; has_all(rt.alloc(), &errors, Log::Errors)?);
+        let alloc = rt.alloc();
+        let first = messages_of(&rt, alloc, b'1');
+        let second = messages_of(&rt, alloc, b'2');
+        let layout = Layout::new(8, 1, 4).expect(&rt, "a layout");
+        let (access, errors) = write(&rt, alloc, layout, first, second).expect(&rt, "a run");
+        assert!(rt; has_all(&access, Log::Access));
+        assert!(rt; has_all(&errors, Log::Errors));
     }
-    Ok(())
 }

@@ -1,6 +1,5 @@
 //! The example of a user's own pool.
 use example_pool::{Ended, run};
-use std::test::Fail;
 use wq_words::Layout;
 
 const RUNS: u32 = 20;
@@ -27,11 +26,11 @@ fn ran_all(queue: &Ended) -> bool {
 
 /// Both queues run all that their senders queue, each time.
 #[test]
-fn both_queues_run_all(rt: HostRuntime) -> Result<(), Fail> {
+fn both_queues_run_all(rt: HostRuntime) {
     for _run in 0..RUNS {
-        let (one, two) = run(&rt, rt.alloc(), Layout::new(4, 1, 4)?)?;
+        let layout = Layout::new(4, 1, 4).expect(&rt, "a layout");
+        let (one, two) = run(&rt, rt.alloc(), layout).expect(&rt, "a run");
         assert!(rt; ran_all(&one));
         assert!(rt; ran_all(&two));
     }
-    Ok(())
 }

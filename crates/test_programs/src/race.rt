@@ -6,7 +6,6 @@ use crossbeam_utils::sync::Parker;
 use std::alloc::Global;
 use std::process::Abort;
 use std::sync::Wait;
-use std::test::Fail;
 use std::thread::{Scope, Threads, scope, scope_env, yield_now};
 use std::time::{Duration, Instant};
 use wq_live::Sender;
@@ -69,13 +68,13 @@ fn queue_first<R: Abort + Wait>(rt: &R, sender: &mut Sender, parker: &Parker) {
 
 /// A queueing wakes who parks: a park after it returns at once.
 #[test]
-fn a_queueing_wakes(rt: HostRuntime) -> Result<(), Fail> {
-    let parker = Parker::new(rt.alloc())?;
-    let before = Instant::now(&rt)?;
+fn a_queueing_wakes(rt: HostRuntime) {
+    let parker = Parker::new(rt.alloc()).expect(&rt, "memory");
+    let before = Instant::now(&rt).expect(&rt, "a clock");
     queue_first(&rt, &mut team_of(&rt, rt.alloc(), PLAN).program, &parker);
     parker.park_timeout(&rt, Duration::from_secs(20));
-    assert!(rt; before.elapsed(&rt)? < Duration::from_secs(20));
-    Ok(())
+    let elapsed = before.elapsed(&rt).expect(&rt, "a clock");
+    assert!(rt; elapsed < Duration::from_secs(20));
 }
 
 /// Whether the item of this number, which was queued, has begun, within so many looks.

@@ -1,9 +1,11 @@
 //! Streams that fail at one call alone, each in turn, under each of the mains.
+mod cut;
 mod pieces;
 
 use crate::expect::expect_same;
+use crate::mains::streams::cut::{Cut, PieceReader, PieceWriter};
 use std::alloc::Global;
-use std::io::{BufReader, Error, ErrorKind, Read, Result, Write};
+use std::io::BufReader;
 use std::process::Abort;
 use std::sync::Wait;
 use std::thread::Threads;
@@ -83,211 +85,89 @@ const ROWS: &[Row] = &[
     },
 ];
 
-/// What a run leaves: its status, and what it said of failures.
-#[derive(Drop)]
-struct Ended {
-    status: u8,
-    faults: Vec<u8>,
-}
-
-impl Ended {
-    /// It ended with this status, and said just this of failures.
-    fn is(&self, status: u8, faults: &[u8]) -> bool {
-        self.status == status && self.faults.as_slice() == faults
-    }
-}
-
-fn run<T: Threads + Wait + Sync, R: Read + Drop, W: Write>(
+/// Runs a subcommand, and answers its status.
+fn run<T: Threads + Wait + Sync>(
     rt: &T,
     alloc: Global,
     main: Main,
-    reader: R,
-    writer: &mut W,
-) -> Ended {
-    let mut faults = Vec::new(alloc);
-    let status = match main {
-        Main::Script => subcommand_main(&ScriptCommand, alloc, reader, writer, &mut faults),
-        Main::Steps => subcommand_main(&StepsCommand, alloc, reader, writer, &mut faults),
-        Main::History => subcommand_main(&HistoryCommand, alloc, reader, writer, &mut faults),
-        Main::Live => live_main(rt, alloc, reader, writer, &mut faults),
+    reader: PieceReader<'_>,
+    writer: &mut PieceWriter,
+    faults: &mut PieceWriter,
+) -> u8 {
+    match main {
+        Main::Script => subcommand_main(&ScriptCommand, alloc, reader, writer, faults),
+        Main::Steps => subcommand_main(&StepsCommand, alloc, reader, writer, faults),
+        Main::History => subcommand_main(&HistoryCommand, alloc, reader, writer, faults),
+        Main::Live => live_main(rt, alloc, reader, writer, faults),
         Main::Check => match BufReader::new(alloc, reader) {
-            Ok(reader) => check_main(alloc, reader, true, writer, &mut faults),
-            Err(error) => end(Err::<_, Failure>(Failure::from(error)), writer, &mut faults),
+            Ok(reader) => check_main(alloc, reader, true, writer, faults),
+            Err(error) => end(Err::<_, Failure>(Failure::from(error)), writer, faults),
         },
-    };
-    Ended { status, faults }
-}
-
-/// Counts a call down. True once, at the call that comes when none are left.
-fn is_due(calls: &mut u32) -> bool {
-    let is_due = *calls == 0;
-    *calls = calls.wrapping_sub(1);
-    is_due
-}
-
-/// Gives a text a few bytes a call, and fails once, after so many calls: who passes over that gets the rest.
-#[derive(Drop)]
-struct CutReader<'a> {
-    rest: &'a [u8],
-    calls: u32,
-    cause: ErrorKind,
-}
-
-impl Read for CutReader<'_> {
-    fn read(&mut self, buffer: &mut [u8]) -> Result<usize> {
-        if is_due(&mut self.calls) {
-            return Err(Error::from(self.cause));
-        }
-        let count = self.rest.len().min(buffer.len()).min(8);
-        buffer[..count].copy_from_slice(&self.rest[..count]);
-        self.rest = &self.rest[count..];
-        Ok(count)
     }
 }
 
-/// Takes a few bytes a call, and fails once, after so many calls: what is written then is taken again.
-#[derive(Drop)]
-struct CutWriter {
-    taken: Vec<u8>,
-    calls: u32,
-}
-
-impl Write for CutWriter {
-    fn write(&mut self, bytes: &[u8]) -> Result<usize> {
-        if is_due(&mut self.calls) {
-            return Err(Error::from(ErrorKind::BrokenPipe));
-        }
-        let count = bytes.len().min(8);
-        self.taken.extend_from_slice(&bytes[..count])?;
-        Ok(count)
-    }
-
-    fn flush(&mut self) -> Result<()> {
-        if is_due(&mut self.calls) {
-            return Err(Error::from(ErrorKind::BrokenPipe));
-        }
-        Ok(())
-    }
-}
-
-/// A read that fails with this cause, after so many calls, ends with this status and line, and nothing is written. After all
-/// the calls that the text takes none fails, and the output is written.
-fn reader_is_right<T: Threads + Wait + Sync>(
+/// A run whose streams are cut after so many calls ends with the status and the line that are wanted, and wrote what is.
+fn is_right<T: Threads + Wait + Sync>(
     rt: &T,
     alloc: Global,
     row: &Row,
-    reader: CutReader<'_>,
-    ending: (u8, &[u8]),
+    cut: Cut,
+    calls: u32,
 ) -> bool {
-    let is_whole = reader.calls == row.reads;
-    let mut output = Vec::new(alloc);
-    let ended = run(rt, alloc, row.main, reader, &mut output);
-    if is_whole {
-        return ended.is(row.status, b"") && output.as_slice() == row.output;
-    }
-    ended.is(ending.0, ending.1) && output.is_empty()
+    let mut writer = cut.writer(alloc, calls);
+    let mut faults = PieceWriter::whole(alloc);
+    let reader = cut.reader(row.text, calls);
+    let status = run(rt, alloc, row.main, reader, &mut writer, &mut faults);
+    let wanted = cut.wanted(row, calls);
+    let taken = writer.taken.as_slice();
+    status == wanted.status
+        && faults.taken.as_slice() == wanted.faults
+        && row.output.starts_with(taken)
+        && wanted.least <= taken.len()
+        && taken.len() <= wanted.most
 }
 
-fn check_reader<T: Abort + Threads + Wait + Sync>(
-    rt: &T,
-    alloc: Global,
-    row: &Row,
-    cause: ErrorKind,
-    ending: (u8, &[u8]),
-) {
-    for calls in 0..row.reads.saturating_add(1) {
-        let reader = CutReader {
-            rest: row.text,
-            calls,
-            cause,
-        };
-        assert!(rt; reader_is_right(rt, alloc, row, reader, ending), "{calls}");
+fn check_row<T: Abort + Threads + Wait + Sync>(rt: &T, alloc: Global, row: &Row, cut: Cut) {
+    for calls in 0..cut.tries(row) {
+        assert!(rt; is_right(rt, alloc, row, cut, calls), "{calls}");
     }
 }
 
+/// The streams of each main are cut so, at each call in turn.
+fn check_cut<T: Abort + Threads + Wait + Sync>(rt: &T, alloc: Global, cut: Cut) {
+    for row in ROWS {
+        check_row(rt, alloc, row, cut);
+    }
+}
+
+/// A read that fails ends with the status and the line of its cause, and nothing is written.
 #[test]
 fn reader_fails(rt: HostRuntime) {
-    for row in ROWS {
-        let alloc = rt.alloc();
-        check_reader(
-            &rt,
-            alloc,
-            row,
-            ErrorKind::BrokenPipe,
-            (1, b"file: Unreadable\n"),
-        );
-        check_reader(&rt, alloc, row, ErrorKind::OutOfMemory, (3, b"memory\n"));
-    }
+    check_cut(&rt, rt.alloc(), Cut::Unreadable);
+    check_cut(&rt, rt.alloc(), Cut::NoMemory);
 }
 
-/// A read that is interrupted after so many calls is made again, and nothing is lost.
-fn is_read_on<T: Threads + Wait + Sync>(rt: &T, alloc: Global, row: &Row, calls: u32) -> bool {
-    let reader = CutReader {
-        rest: row.text,
-        calls,
-        cause: ErrorKind::Interrupted,
-    };
-    let mut output = Vec::new(alloc);
-    let ended = run(rt, alloc, row.main, reader, &mut output);
-    ended.is(row.status, b"") && output.as_slice() == row.output
-}
-
-fn check_interrupted<T: Abort + Threads + Wait + Sync>(rt: &T, alloc: Global, row: &Row) {
-    for calls in 0..row.reads {
-        assert!(rt; is_read_on(rt, alloc, row, calls), "{calls}");
-    }
-}
-
+/// A read that is interrupted is made again, and nothing is lost.
 #[test]
 fn reader_is_interrupted(rt: HostRuntime) {
-    for row in ROWS {
-        check_interrupted(&rt, rt.alloc(), row);
-    }
+    check_cut(&rt, rt.alloc(), Cut::Interrupted);
 }
 
-/// A write or the flush that fails after so many calls ends with status 1, and what was written begins the output.
-fn writer_is_right<T: Threads + Wait + Sync>(rt: &T, alloc: Global, row: &Row, calls: u32) -> bool {
-    let mut writer = CutWriter {
-        taken: Vec::new(alloc),
-        calls,
-    };
-    let ended = run(rt, alloc, row.main, row.text, &mut writer);
-    if calls < row.writes {
-        return ended.is(1, b"output: Unwritable\n") && row.output.starts_with(&writer.taken);
-    }
-    ended.is(row.status, b"") && writer.taken.as_slice() == row.output
-}
-
-fn check_writer<T: Abort + Threads + Wait + Sync>(rt: &T, alloc: Global, row: &Row) {
-    for calls in 0..row.writes.saturating_add(2) {
-        assert!(rt; writer_is_right(rt, alloc, row, calls), "{calls}");
-    }
-}
-
+/// A write or the flush that fails ends with status 1, and what was written begins the output.
 #[test]
 fn writer_fails(rt: HostRuntime) {
-    for row in ROWS {
-        check_writer(&rt, rt.alloc(), row);
-    }
+    check_cut(&rt, rt.alloc(), Cut::Unwritable);
 }
 
 /// A standard error that cannot be written leaves the status.
 #[test]
 fn faults_fail(rt: HostRuntime) {
     let alloc = rt.alloc();
-    let mut output = Vec::new(alloc);
-    let mut faults = CutWriter {
-        taken: Vec::new(alloc),
-        calls: 0,
-    };
-    let status = subcommand_main(
-        &ScriptCommand,
-        alloc,
-        b"wq 2\n".as_slice(),
-        &mut output,
-        &mut faults,
-    );
+    let mut output = PieceWriter::whole(alloc);
+    let mut faults = Cut::Unwritable.writer(alloc, 0);
+    let reader = Cut::Unwritable.reader(b"wq 2\n", 0);
+    let status = run(&rt, alloc, Main::Script, reader, &mut output, &mut faults);
     expect_same(&rt, status, 1);
-    assert!(rt; output.is_empty());
+    assert!(rt; output.taken.is_empty());
     assert!(rt; faults.taken.is_empty());
 }

@@ -1,17 +1,14 @@
 //! As many workers of a pool as are wanted run at the same time.
-ghost use Rattle.wq_ready.specs.Known.{IsCallerOf};
-
 use crate::expect::expect_same;
-use crate::pool::team::{Guest, GuestOf, Logging, finish_all, new_pool_for, take_last, to_stop};
+use crate::pool::team::{Guest, GuestOf, finish_all, new_pool_for, run_beside, take_last, to_stop};
 use crate::pool::values::to_stop_with_values;
 use std::alloc::Global;
 use std::process::Abort;
-use std::slice;
 use std::sync::Wait;
 use std::sync::atomic::AtomicU64;
 use std::sync::atomic::Ordering::SeqCst;
-use std::thread::{Threads, join, yield_now};
-use wq_pool::{Caller, Gate, Pool, ServedOf};
+use std::thread::{Threads, yield_now};
+use wq_pool::{Gate, ServedOf};
 use wq_worker::Station;
 
 /// So often a queue looks what the others do.
@@ -168,35 +165,18 @@ fn pool_two_workers_overlap(rt: HostRuntime) {
 /// One worker runs the pool, and another joins by a run of its own while the first waits within an item.
 fn run_late<R: Abort + Threads + Wait + Sync>(
     rt: &R,
-    pool: &Pool<Logging>,
-    mut first: Caller,
-    mut late: Caller,
+    first: Guest<'_>,
+    mut late: Guest<'_>,
     gate: &Waiting,
-)
-    requires first { IsCallerOf pool.now.ready first }
-    requires late { IsCallerOf pool.now.ready late }
-{
-    let (one, other) = join(
-        rt,
-        ||
-            requires { IsCallerOf pool.now.ready first }
-        { pool.run(rt, slice::from_mut(&mut first), gate) },
-        ||
-            requires { IsCallerOf pool.now.ready late }
-        {
-            assert!(rt; gate.does_wait());
-            pool.run(rt, slice::from_mut(&mut late), gate)
-        },
-    );
-    one.expect(rt, "a thread");
-    other.expect(rt, "a thread");
+) {
+    run_beside(rt, first, gate, || {
+        assert!(rt; gate.does_wait());
+        late.run(rt, gate)
+    });
 }
 
 /// Announces queues 0 and 1.
-fn announce_both<R: Abort + Wait>(rt: &R, pool: &Pool<Logging>, announcer: Caller)
-    requires { IsCallerOf pool.now.ready announcer }
-{
-    let mut guest = Guest::new(pool, announcer);
+fn announce_both<R: Abort + Wait>(rt: &R, guest: &mut Guest<'_>) {
     for queue in 0..2u32 {
         assert!(rt; guest.announce(rt, queue));
     }
@@ -210,9 +190,14 @@ fn pool_late_run_overlaps(rt: HostRuntime) {
     let (pool, announcer, mut callers) = new_pool_for(&rt, rt.alloc(), queues, 2);
     let late = take_last(&rt, &pool, &mut callers);
     let first = take_last(&rt, &pool, &mut callers);
-    announce_both(&rt, &pool, announcer);
+    announce_both(&rt, &mut Guest::new(&pool, announcer));
     let gate = Waiting::new();
-    run_late(&rt, &pool, first, late, &gate);
+    run_late(
+        &rt,
+        Guest::new(&pool, first),
+        Guest::new(&pool, late),
+        &gate,
+    );
     expect_same(&rt, gate.came.load(SeqCst), 1);
     finish_all(&rt, pool, 0, 2);
 }

@@ -9,7 +9,7 @@ use std::process::Abort;
 use std::sync::Wait;
 use std::sync::atomic::AtomicU64;
 use std::sync::atomic::Ordering::SeqCst;
-use std::thread::{Threads, join_mut};
+use std::thread::{Threads, join};
 use wq_live::Sender;
 use wq_pool::{Gate, Served, Turn, Worked};
 use wq_words::Layout;
@@ -85,10 +85,10 @@ fn disturb<R: Abort + Threads + Sync>(
     second: &mut Sender,
     is_done: &AtomicU64,
 ) {
-    join_mut(
+    join(
         rt,
-        &mut || queue_often(rt, first, 100),
-        &mut || queue_often(rt, second, 200),
+        || queue_often(rt, first, 100),
+        || queue_often(rt, second, 200),
     );
     is_done.store(1, SeqCst);
 }
@@ -166,10 +166,10 @@ fn owes_once<R: Abort + Threads + Wait + Sync>(
     second: &mut Sender,
 ) -> bool {
     let is_done = AtomicU64::new(0);
-    let (is_owing, _) = join_mut(
+    let (is_owing, _) = join(
         rt,
-        &mut || serve_until_owing(rt, guest, &is_done),
-        &mut || disturb(rt, first, second, &is_done),
+        || serve_until_owing(rt, guest, &is_done),
+        || disturb(rt, first, second, &is_done),
     );
     is_owing
 }

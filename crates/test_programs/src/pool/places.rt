@@ -1,21 +1,18 @@
 //! What a run of a pool serves while all places of the ready queue are taken.
-ghost use Rattle.std.specs.Prelude.{All};
-ghost use Rattle.wq_ready.specs.Known.{IsCallerOf};
-
 use crate::expect::expect_same;
 use crate::pool::serving::{Two, new_two};
 use crate::pool::team::{
-    Guest, Logging, empty, finish_all, finish_unfinished, new_pool_for, queue_item, serve_queue,
-    work,
+    Guest, Logging, empty, finish_all, finish_unfinished, new_pool_with_worker, queue_item,
+    run_beside, serve_queue, work,
 };
 use std::alloc::Global;
 use std::process::Abort;
 use std::sync::Wait;
 use std::sync::atomic::AtomicU64;
 use std::sync::atomic::Ordering::SeqCst;
-use std::thread::{Threads, join, yield_now};
+use std::thread::{Threads, yield_now};
 use wq_live::Sender;
-use wq_pool::{Caller, Gate, NoGate, Pool, Served};
+use wq_pool::{Gate, NoGate, Served};
 
 /// So often it is looked what the other thread has done.
 const LOOKS: u32 = 20_000_000;
@@ -78,29 +75,22 @@ fn take_places<R: Abort + Wait>(
 }
 
 /// One worker runs the pool, of which both queues are announced.
-fn run_beside<R: Abort + Threads + Wait + Sync>(
+fn run_restless<R: Abort + Threads + Wait + Sync>(
     rt: &R,
-    pool: &Pool<Logging>,
-    mut workers: Vec<Caller>,
-    caller: Caller,
-    mut sender: Sender,
-)
-    requires workers { All (IsCallerOf pool.now.ready) workers.items }
-    requires caller { IsCallerOf pool.now.ready caller }
-{
-    let mut guest = Guest::new(pool, caller);
+    worker: Guest<'_>,
+    mut guest: Guest<'_>,
+    sender: &mut Sender,
+) {
     for queue in 0..2u32 {
         assert!(rt; guest.announce(rt, queue));
     }
     let doorway = Doorway::new();
-    let (ran, ()) = join(
+    run_beside(
         rt,
-        ||
-            requires { All (IsCallerOf pool.now.ready) workers.items }
-        { pool.run(rt, workers.as_mut_slice(), &doorway) },
-        || take_places(rt, &mut guest, &mut sender, &doorway),
+        worker,
+        &doorway,
+        || take_places(rt, &mut guest, sender, &doorway),
     );
-    ran.expect(rt, "a thread");
     expect_same(rt, doorway.late.load(SeqCst), 0);
 }
 
@@ -110,12 +100,13 @@ fn restless_queue_gives_way_where_no_place_is_free(rt: HostRuntime) {
     let Two {
         queues,
         mut one,
-        two,
+        mut two,
     } = new_two(&rt, rt.alloc(), 0);
     queue_item(&rt, &mut one, 0);
     one.request_stop(1);
-    let (pool, caller, workers) = new_pool_for(&rt, rt.alloc(), queues, 1);
-    run_beside(&rt, &pool, workers, caller, two);
+    let (pool, caller, worker) = new_pool_with_worker(&rt, rt.alloc(), queues);
+    let worker = Guest::new(&pool, worker);
+    run_restless(&rt, worker, Guest::new(&pool, caller), &mut two);
     finish_unfinished(&rt, pool, 0, (0, 1));
 }
 
@@ -175,26 +166,19 @@ fn serve_announced<R: Abort + Wait>(rt: &R, guest: &mut Guest<'_>) -> u32 {
 /// One worker runs the pool, of which the last queue alone has not run its stop item. Answers how many announcements are found then.
 fn run_last<R: Abort + Threads + Wait + Sync>(
     rt: &R,
-    pool: &Pool<Logging>,
-    mut workers: Vec<Caller>,
-    caller: Caller,
-    mut one: Sender,
-    mut two: Sender,
-) -> u32
-    requires workers { All (IsCallerOf pool.now.ready) workers.items }
-    requires caller { IsCallerOf pool.now.ready caller }
-{
-    let mut guest = Guest::new(pool, caller);
+    worker: Guest<'_>,
+    mut guest: Guest<'_>,
+    one: &mut Sender,
+    two: &mut Sender,
+) -> u32 {
     assert!(rt; guest.announce(rt, 2));
     let doorway = Doorway::new();
-    let (ran, ()) = join(
+    run_beside(
         rt,
-        ||
-            requires { All (IsCallerOf pool.now.ready) workers.items }
-        { pool.run(rt, workers.as_mut_slice(), &doorway) },
-        || take_all_places(rt, &mut guest, &mut one, &mut two, &doorway),
+        worker,
+        &doorway,
+        || take_all_places(rt, &mut guest, one, two, &doorway),
     );
-    ran.expect(rt, "a thread");
     expect_same(rt, doorway.late.load(SeqCst), 0);
     serve_announced(rt, &mut guest)
 }
@@ -202,11 +186,16 @@ fn run_last<R: Abort + Threads + Wait + Sync>(
 /// A run that ends while no place is free leaves each queue announced, once, of which something is left.
 #[test]
 fn run_announces_what_it_leaves_where_no_place_is_free(rt: HostRuntime) {
-    let Three { queues, one, two } = new_three(&rt, rt.alloc());
-    let (pool, mut caller, workers) = new_pool_for(&rt, rt.alloc(), queues, 1);
+    let Three {
+        queues,
+        mut one,
+        mut two,
+    } = new_three(&rt, rt.alloc());
+    let (pool, mut caller, worker) = new_pool_with_worker(&rt, rt.alloc(), queues);
     serve_queue(&rt, &pool, &mut caller, 0);
     serve_queue(&rt, &pool, &mut caller, 1);
-    let served = run_last(&rt, &pool, workers, caller, one, two);
+    let worker = Guest::new(&pool, worker);
+    let served = run_last(&rt, worker, Guest::new(&pool, caller), &mut one, &mut two);
     expect_same(&rt, served, 3);
     finish_all(&rt, pool, 0, 3);
 }

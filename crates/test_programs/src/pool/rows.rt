@@ -14,57 +14,27 @@ use wq_live::Answer;
 use wq_pool::{AnnounceError, Caller, NoGate, PoolError, PoolOf, ServedOf, TurnOf};
 use wq_worker::Station;
 
-/// A worked row of two queues, of either kind.
-trait Row {
-    fn check<R: Abort + Wait, K: Station + Drop>(rt: &R, alloc: Global, queues: Vec<ServedOf<K>>)
-    where
-        K::Work: Drop + Ordered,
-        K::Book: Drop;
-}
-
-/// The row over plain queues and over queues whose items bring values, with so many items queued in each.
-fn check_both<T: Row, R: Abort + Wait>(rt: &R, alloc: Global, first: u32, second: u32) {
-    T::check(rt, alloc, two_filled(rt, alloc, first, second));
-    T::check(rt, alloc, two_with_values(rt, alloc, first, second));
-}
-
 /// As many announcements wait as there are queues, whichever they are of.
-struct AnnouncedUntilFull;
-
-impl Row for AnnouncedUntilFull {
-    fn check<R: Abort + Wait, K: Station + Drop>(rt: &R, alloc: Global, queues: Vec<ServedOf<K>>)
-    where
-        K::Work: Drop + Ordered,
-        K::Book: Drop,
-    {
-        let (pool, mut caller) = new_pool(rt, alloc, queues);
-        expect_same(rt, pool.announce(rt, &mut caller, 0), Ok(()));
-        expect_same(rt, pool.announce(rt, &mut caller, 0), Ok(()));
-        expect_same(
-            rt,
-            pool.announce(rt, &mut caller, 1),
-            Err(AnnounceError::Full),
-        );
-        expect_same(
-            rt,
-            pool.announce(rt, &mut caller, 2),
-            Err(AnnounceError::NoQueue),
-        );
-        let wakes = Answer::Queued {
-            first: true,
-            wakes: true,
-        };
-        expect_same(
-            rt,
-            pool.wake(rt, &mut caller, 2, wakes),
-            Err(AnnounceError::NoQueue),
-        );
-    }
-}
-
-#[test]
-fn announced_until_full(rt: HostRuntime) {
-    check_both::<AnnouncedUntilFull, _>(&rt, rt.alloc(), 0, 0);
+fn fill<R: Abort + Wait, K: Station + Drop>(rt: &R, pool: &PoolOf<K>, caller: &mut Caller)
+    requires { IsCallerOf pool.now.ready caller.old }
+{
+    expect_same(rt, pool.announce(rt, caller, 0), Ok(()));
+    expect_same(rt, pool.announce(rt, caller, 0), Ok(()));
+    expect_same(rt, pool.announce(rt, caller, 1), Err(AnnounceError::Full));
+    expect_same(
+        rt,
+        pool.announce(rt, caller, 2),
+        Err(AnnounceError::NoQueue),
+    );
+    let wakes = Answer::Queued {
+        first: true,
+        wakes: true,
+    };
+    expect_same(
+        rt,
+        pool.wake(rt, caller, 2, wakes),
+        Err(AnnounceError::NoQueue),
+    );
 }
 
 /// Works at a queue to its end, and puts it back.
@@ -82,13 +52,19 @@ fn end_turn<R: Abort, K: Station + Drop>(
     pool.put_back(caller, worked);
 }
 
-/// The pool ends, and its two queues have run these items.
-fn check_ended<R: Abort, K: Station + Drop>(rt: &R, pool: PoolOf<K>, first: &[u32], second: &[u32])
+/// The pool ends within a limit, and its two queues have run these items.
+fn check_ended<R: Abort, K: Station + Drop>(
+    rt: &R,
+    pool: PoolOf<K>,
+    limit: u32,
+    first: &[u32],
+    second: &[u32],
+)
 where
     K::Work: Drop + Ordered,
     K::Book: Drop,
 {
-    let finished = pool.finish(9).expect(rt, "all finished");
+    let finished = pool.finish(limit).expect(rt, "all finished");
     let [(zero, _), (one, _)] = finished.as_slice() else {
         panic!(rt; "not two queues")
     };
@@ -96,97 +72,110 @@ where
 }
 
 /// Two queues are in one hand, in the order in which they were announced. They are out until they are put back.
-struct InHandIsOut;
+fn take_both<R: Abort + Wait, K: Station + Drop>(rt: &R, pool: PoolOf<K>, mut caller: Caller)
+where
+    K::Work: Drop + Ordered,
+    K::Book: Drop,
+    requires { IsCallerOf pool.ready caller }
+{
+    expect_same(rt, pool.announce(rt, &mut caller, 1), Ok(()));
+    expect_same(rt, pool.announce(rt, &mut caller, 0), Ok(()));
+    let one = pool.pick(rt, &mut caller).expect(rt, "a turn");
+    let other = pool.pick(rt, &mut caller).expect(rt, "a second turn");
+    expect_same(rt, (one.queue(), other.queue()), (1, 0));
+    assert!(rt; pool.pick(rt, &mut caller).is_none());
+    let pool = finish_out(rt, pool, 9, 0);
+    end_turn(rt, &pool, &mut caller, one);
+    end_turn(rt, &pool, &mut caller, other);
+    check_ended(rt, pool, 9, &[0, 1], &[0]);
+}
 
-impl Row for InHandIsOut {
-    fn check<R: Abort + Wait, K: Station + Drop>(rt: &R, alloc: Global, queues: Vec<ServedOf<K>>)
-    where
-        K::Work: Drop + Ordered,
-        K::Book: Drop,
-    {
-        let (pool, mut caller) = new_pool(rt, alloc, queues);
-        expect_same(rt, pool.announce(rt, &mut caller, 1), Ok(()));
-        expect_same(rt, pool.announce(rt, &mut caller, 0), Ok(()));
-        let one = pool.pick(rt, &mut caller).expect(rt, "a turn");
-        let other = pool.pick(rt, &mut caller).expect(rt, "a second turn");
-        expect_same(rt, (one.queue(), other.queue()), (1, 0));
-        assert!(rt; pool.pick(rt, &mut caller).is_none());
-        let pool = finish_out(rt, pool, 9, 0);
-        end_turn(rt, &pool, &mut caller, one);
-        end_turn(rt, &pool, &mut caller, other);
-        check_ended(rt, pool, &[0, 1], &[0]);
+/// A queue that is out is named before one with something left, which was executed up to the limit.
+fn take_second<R: Abort + Wait, K: Station + Drop>(rt: &R, pool: PoolOf<K>, mut caller: Caller)
+where
+    K::Work: Drop,
+    K::Book: Drop,
+    requires { IsCallerOf pool.ready caller }
+{
+    pool.announce(rt, &mut caller, 1).expect(rt, "room");
+    let turn = pool.pick(rt, &mut caller).expect(rt, "a turn");
+    let pool = finish_out(rt, pool, 1, 1);
+    end_turn(rt, &pool, &mut caller, turn);
+    finish_all(rt, pool, 1, 2);
+}
+
+/// A worked row of a pool of two queues.
+#[derive(Clone, Copy)]
+enum Row {
+    /// As many announcements wait as there are queues.
+    Full,
+    /// Both queues are in one hand.
+    InHand,
+    /// What was queued and never announced is executed at the end, so many of each queue as the limit says.
+    ToTheLimit,
+    /// The first queue with something left is named.
+    FirstLeft,
+    /// The second queue is out.
+    Out,
+}
+
+/// The row over queues of either kind.
+fn check<R: Abort + Wait, K: Station + Drop>(
+    rt: &R,
+    alloc: Global,
+    row: Row,
+    queues: Vec<ServedOf<K>>,
+)
+where
+    K::Work: Drop + Ordered,
+    K::Book: Drop,
+{
+    let (pool, mut caller) = new_pool(rt, alloc, queues);
+    match row {
+        Row::Full => fill(rt, &pool, &mut caller),
+        Row::InHand => take_both(rt, pool, caller),
+        Row::ToTheLimit => {
+            let pool = finish_unfinished(rt, pool, 1, (0, 1));
+            check_ended(rt, pool, 1, &[0, 1], &[]);
+        }
+        Row::FirstLeft => {
+            let pool = finish_unfinished(rt, pool, 1, (0, 1));
+            let pool = finish_unfinished(rt, pool, 1, (1, 1));
+            finish_all(rt, pool, 1, 2);
+        }
+        Row::Out => take_second(rt, pool, caller),
     }
+}
+
+/// The row over plain queues and over queues whose items bring values, with so many items queued in each.
+fn check_both<R: Abort + Wait>(rt: &R, alloc: Global, row: Row, first: u32, second: u32) {
+    check(rt, alloc, row, two_filled(rt, alloc, first, second));
+    check(rt, alloc, row, two_with_values(rt, alloc, first, second));
+}
+
+#[test]
+fn announced_until_full(rt: HostRuntime) {
+    check_both(&rt, rt.alloc(), Row::Full, 0, 0);
 }
 
 #[test]
 fn in_hand_is_out(rt: HostRuntime) {
-    check_both::<InHandIsOut, _>(&rt, rt.alloc(), 2, 1);
-}
-
-/// What was queued and never announced is executed at the end, so many of each queue as the limit says.
-struct FinishExecutesToItsLimit;
-
-impl Row for FinishExecutesToItsLimit {
-    fn check<R: Abort + Wait, K: Station + Drop>(rt: &R, alloc: Global, queues: Vec<ServedOf<K>>)
-    where
-        K::Work: Drop + Ordered,
-        K::Book: Drop,
-    {
-        let (pool, _caller) = new_pool(rt, alloc, queues);
-        let pool = finish_unfinished(rt, pool, 1, (0, 1));
-        let finished = pool.finish(1).expect(rt, "all finished");
-        expect_same(rt, finished.len(), 2);
-        assert!(rt; finished[0].0.has_run(&[0, 1]));
-    }
+    check_both(&rt, rt.alloc(), Row::InHand, 2, 1);
 }
 
 #[test]
 fn finish_executes_to_its_limit(rt: HostRuntime) {
-    check_both::<FinishExecutesToItsLimit, _>(&rt, rt.alloc(), 2, 0);
-}
-
-/// The first queue with something left is named.
-struct FirstLeftIsNamed;
-
-impl Row for FirstLeftIsNamed {
-    fn check<R: Abort + Wait, K: Station + Drop>(rt: &R, alloc: Global, queues: Vec<ServedOf<K>>)
-    where
-        K::Work: Drop + Ordered,
-        K::Book: Drop,
-    {
-        let (pool, _caller) = new_pool(rt, alloc, queues);
-        let pool = finish_unfinished(rt, pool, 1, (0, 1));
-        let pool = finish_unfinished(rt, pool, 1, (1, 1));
-        finish_all(rt, pool, 1, 2);
-    }
+    check_both(&rt, rt.alloc(), Row::ToTheLimit, 2, 0);
 }
 
 #[test]
 fn first_left_is_named(rt: HostRuntime) {
-    check_both::<FirstLeftIsNamed, _>(&rt, rt.alloc(), 2, 3);
-}
-
-/// A queue that is out is named before one with something left, which was executed up to the limit.
-struct OutBeforeLeft;
-
-impl Row for OutBeforeLeft {
-    fn check<R: Abort + Wait, K: Station + Drop>(rt: &R, alloc: Global, queues: Vec<ServedOf<K>>)
-    where
-        K::Work: Drop + Ordered,
-        K::Book: Drop,
-    {
-        let (pool, mut caller) = new_pool(rt, alloc, queues);
-        pool.announce(rt, &mut caller, 1).expect(rt, "room");
-        let turn = pool.pick(rt, &mut caller).expect(rt, "a turn");
-        let pool = finish_out(rt, pool, 1, 1);
-        end_turn(rt, &pool, &mut caller, turn);
-        finish_all(rt, pool, 1, 2);
-    }
+    check_both(&rt, rt.alloc(), Row::FirstLeft, 2, 3);
 }
 
 #[test]
 fn out_before_left(rt: HostRuntime) {
-    check_both::<OutBeforeLeft, _>(&rt, rt.alloc(), 2, 0);
+    check_both(&rt, rt.alloc(), Row::Out, 2, 0);
 }
 
 /// Why no pool of these queues is made.

@@ -1,12 +1,11 @@
 //! When a run of a pool ends.
 use crate::expect::expect_same;
 use crate::pool::team::{
-    Guest, Logging, empty, filled, finish_all, finish_unfinished, new_pool, new_pool_for,
-    queue_item, take_last, to_stop,
+    Guest, Logging, empty, filled, finish_all, finish_unfinished, new_pool, new_pool_with_worker,
+    queue_item, to_stop,
 };
 use std::alloc::Global;
 use std::process::Abort;
-use std::slice;
 use std::sync::Wait;
 use std::thread::Threads;
 use wq_pool::{NoGate, Pool, Served};
@@ -16,13 +15,7 @@ fn run_alone<R: Abort + Threads + Wait + Sync>(rt: &R, mut guest: Guest<'_>, que
     for queue in 0..queues {
         assert!(rt; guest.announce(rt, queue));
     }
-    let Guest {
-        pool,
-        mut caller,
-        ..
-    } = guest;
-    pool.run(rt, slice::from_mut(&mut caller), &NoGate)
-        .expect(rt, "a thread");
+    guest.run(rt, &NoGate);
 }
 
 /// A queue counts once, however often its stop item runs and it is put back: the run goes on until the other's has run.
@@ -90,8 +83,7 @@ fn second_run_leaves_what_is_announced(rt: HostRuntime) {
     let (served, mut sender) = filled(&rt, rt.alloc(), 0);
     sender.request_stop(1);
     let queues = Vec::from_array(rt.alloc(), [served]).expect(&rt, "memory");
-    let (pool, caller, mut callers) = new_pool_for(&rt, rt.alloc(), queues, 1);
-    let other = take_last(&rt, &pool, &mut callers);
+    let (pool, caller, other) = new_pool_with_worker(&rt, rt.alloc(), queues);
     run_alone(&rt, Guest::new(&pool, caller), 1);
     queue_item(&rt, &mut sender, 0);
     run_alone(&rt, Guest::new(&pool, other), 1);

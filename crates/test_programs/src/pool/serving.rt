@@ -1,14 +1,13 @@
 //! What a run of a pool serves while others queue.
-ghost use Rattle.std.specs.Prelude.{All};
-ghost use Rattle.wq_ready.specs.Known.{IsCallerOf};
-
-use crate::pool::team::{Guest, Logging, empty, finish_all, finish_unfinished, new_pool_for};
+use crate::pool::team::{
+    Guest, Logging, empty, finish_all, finish_unfinished, new_pool_with_worker, run_beside,
+};
 use std::alloc::Global;
 use std::process::Abort;
 use std::sync::Wait;
-use std::thread::{Threads, join, yield_now};
+use std::thread::{Threads, yield_now};
 use wq_live::Sender;
-use wq_pool::{Caller, NoGate, Pool, Served};
+use wq_pool::{NoGate, Pool, Served};
 
 /// So often it is looked whether a queue was served.
 const LOOKS: u32 = 20_000_000;
@@ -71,26 +70,19 @@ fn queue_rounds<R: Abort + Wait>(
 }
 
 /// One worker runs the pool meanwhile.
-fn run_beside<R: Abort + Threads + Wait + Sync>(
+fn run_while_queued<R: Abort + Threads + Wait + Sync>(
     rt: &R,
-    pool: &Pool<Logging>,
-    mut workers: Vec<Caller>,
-    caller: Caller,
-    mut one: Sender,
-    mut two: Sender,
-)
-    requires workers { All (IsCallerOf pool.now.ready) workers.items }
-    requires caller { IsCallerOf pool.now.ready caller }
-{
-    let mut guest = Guest::new(pool, caller);
-    let (ran, ()) = join(
+    worker: Guest<'_>,
+    mut guest: Guest<'_>,
+    one: &mut Sender,
+    two: &mut Sender,
+) {
+    run_beside(
         rt,
-        move ||
-            requires { All (IsCallerOf pool.now.ready) workers.items }
-        { pool.run(rt, workers.as_mut_slice(), &NoGate) },
-        move || queue_rounds(rt, &mut guest, &mut one, &mut two),
+        worker,
+        &NoGate,
+        || queue_rounds(rt, &mut guest, one, two),
     );
-    ran.expect(rt, "a thread");
 }
 
 /// The pool after such a run.
@@ -99,9 +91,14 @@ fn run_rounds<R: Abort + Threads + Wait + Sync>(
     alloc: Global,
     asks_from: u32,
 ) -> Pool<Logging> {
-    let Two { queues, one, two } = new_two(rt, alloc, asks_from);
-    let (pool, caller, workers) = new_pool_for(rt, alloc, queues, 1);
-    run_beside(rt, &pool, workers, caller, one, two);
+    let Two {
+        queues,
+        mut one,
+        mut two,
+    } = new_two(rt, alloc, asks_from);
+    let (pool, caller, worker) = new_pool_with_worker(rt, alloc, queues);
+    let worker = Guest::new(&pool, worker);
+    run_while_queued(rt, worker, Guest::new(&pool, caller), &mut one, &mut two);
     pool
 }
 

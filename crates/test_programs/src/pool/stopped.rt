@@ -9,7 +9,7 @@ use crate::pool::team::{
 use std::alloc::Global;
 use std::process::Abort;
 use std::sync::Wait;
-use std::thread::{Threads, join_mut};
+use std::thread::{Threads, join};
 use wq_pool::{Caller, NoGate, Pool, Served, Turn};
 
 /// Three queues, with three items queued in each.
@@ -41,10 +41,10 @@ fn serve_others<R: Abort + Threads + Wait + Sync>(
     let gate = Counting::new();
     let mut first = Guest::new(pool, take_last(rt, pool, &mut callers));
     let mut second = Guest::new(pool, take_last(rt, pool, &mut callers));
-    join_mut(
+    join(
         rt,
-        &mut || first.serve(rt, 0, &gate),
-        &mut || second.serve(rt, 2, &gate),
+        || first.serve(rt, 0, &gate),
+        || second.serve(rt, 2, &gate),
     );
     gate.count()
 }

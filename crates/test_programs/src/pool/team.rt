@@ -6,9 +6,11 @@ use crate::expect::expect_same;
 use arrayvec::ArrayVec;
 use std::alloc::Global;
 use std::process::Abort;
+use std::slice;
 use std::sync::atomic::AtomicU64;
 use std::sync::atomic::Ordering::SeqCst;
 use std::sync::{Mutex, Wait};
+use std::thread::{Threads, join};
 use trail::Trail;
 use wq_live::{Answer, Sender};
 use wq_pool::{
@@ -220,6 +222,20 @@ pub(crate) fn new_pool<R: Abort, K: Station + Drop>(
     (pool, caller)
 }
 
+/// A pool of these queues, a caller of it, and one for a worker.
+pub(crate) fn new_pool_with_worker<R: Abort, K: Station + Drop>(
+    rt: &R,
+    alloc: Global,
+    queues: Vec<ServedOf<K>>,
+) -> (PoolOf<K>, Caller, Caller)
+    ensures caller { IsCallerOf result.0.ready result.1 }
+    ensures worker { IsCallerOf result.0.ready result.2 }
+{
+    let (pool, caller, mut workers) = new_pool_for(rt, alloc, queues, 1);
+    let worker = take_last(rt, &pool, &mut workers);
+    (pool, caller, worker)
+}
+
 /// A caller with its pool.
 #[derive(Drop)]
 pub(crate) struct GuestOf<'a, K: Station> {
@@ -255,6 +271,31 @@ impl<'a, K: Station + Drop> GuestOf<'a, K> {
         let woken = self.pool.wake(rt, &mut self.caller, queue, answer);
         assert!(rt; woken.is_ok());
     }
+}
+
+impl<'a, K: Station + Drop + Send> GuestOf<'a, K> {
+    /// Runs the pool, as its only worker.
+    pub(crate) fn run<R: Abort + Threads + Wait + Sync, G: Gate + Sync>(
+        &mut self,
+        rt: &R,
+        gate: &G,
+    ) {
+        self.pool
+            .run(rt, slice::from_mut(&mut self.caller), gate)
+            .expect(rt, "a thread");
+    }
+}
+
+/// One worker runs its pool while another thread does this.
+pub(crate) fn run_beside<R: Abort + Threads + Wait + Sync, G: Gate + Sync, F: FnOnce() + Send>(
+    rt: &R,
+    mut worker: Guest<'_>,
+    gate: &G,
+    deed: F,
+)
+    requires { F.IsAlwaysCallable deed }
+{
+    join(rt, || worker.run(rt, gate), deed);
 }
 
 /// So many callers with their pool, each under a lock of its own.

@@ -4,22 +4,29 @@ ghost use Rattle.std.specs.Prelude.{◌≡◌, []};
 use crate::pool::team::Logging;
 use std::alloc::Global;
 use std::process::Abort;
+use std::sync::Arc;
 use wq_pool::ServedOf;
 use wq_value_pool::ValueServed;
 use wq_value_worker::{ValueFollow, ValueWork, ValueWorker};
 use wq_values::{ValueAnswer, ValueSender};
 use wq_words::Layout;
 
+/// What an item brings: a share of a number.
+pub(crate) type Share = Arc<u64>;
+
 /// A work that keeps what it ran, and what came back. It asks for nothing.
 #[derive(Drop)]
-pub(crate) struct Carrying<'a, R: Abort, V: Drop> {
+pub(crate) struct Carrying<'a, R: Abort> {
     rt: &'a R,
-    pub(crate) ran: Vec<(u32, V)>,
-    came_back: Vec<(u32, V)>,
+    ran: Vec<(u32, Share)>,
+    came_back: Vec<(u32, Share)>,
 }
 
-impl<'a, R: Abort, V: Drop> Carrying<'a, R, V> {
-    fn new(rt: &'a R, alloc: Global) -> Carrying<'a, R, V>
+/// A queue whose items bring shares.
+pub(crate) type Valued<'a, R> = ValueServed<Share, Carrying<'a, R>>;
+
+impl<'a, R: Abort> Carrying<'a, R> {
+    fn new(rt: &'a R, alloc: Global) -> Carrying<'a, R>
         ensures { result.ran.items ≡ [] }
     {
         Carrying {
@@ -30,7 +37,7 @@ impl<'a, R: Abort, V: Drop> Carrying<'a, R, V> {
     }
 }
 
-impl<'a, R: Abort, V: Drop> ValueWork<V> for Carrying<'a, R, V> {
+impl<'a, R: Abort> ValueWork<Share> for Carrying<'a, R> {
     ghost log = { λ w. w.ran.items };
 
     ghost given = { λ w. w.came_back.items };
@@ -39,12 +46,12 @@ impl<'a, R: Abort, V: Drop> ValueWork<V> for Carrying<'a, R, V> {
 
     ghost takes = { λ w k v u. Unit {0} };
 
-    fn run(&mut self, item: u32, value: V) -> ValueFollow<V> {
+    fn run(&mut self, item: u32, value: Share) -> ValueFollow<Share> {
         self.ran.push((item, value)).expect(self.rt, "memory");
         ValueFollow::new()
     }
 
-    fn returned(&mut self, item: u32, value: V) {
+    fn returned(&mut self, item: u32, value: Share) {
         self.came_back.push((item, value)).expect(self.rt, "memory");
     }
 }
@@ -65,12 +72,17 @@ fn value_of(item: u32) -> u64 {
     u64::from(item).wrapping_add(1 << 40)
 }
 
+/// The share that an item brings.
+pub(crate) fn share_of<R: Abort>(rt: &R, alloc: Global, item: u32) -> Share {
+    Arc::new(alloc, value_of(item)).expect(rt, "memory")
+}
+
 /// Each with the value that it brought.
-impl<'a, R: Abort> Ordered for Carrying<'a, R, u64> {
+impl<'a, R: Abort> Ordered for Carrying<'a, R> {
     fn has_run(&self, items: &[u32]) -> bool {
         let mut place = 0usize;
-        for &(item, value) in self.ran.as_slice() {
-            if items.get(place) != Some(&item) || value != value_of(item) {
+        for (item, share) in self.ran.as_slice() {
+            if items.get(place) != Some(item) || **share != value_of(*item) {
                 return false;
             }
             place = place.wrapping_add(1);
@@ -79,24 +91,24 @@ impl<'a, R: Abort> Ordered for Carrying<'a, R, u64> {
     }
 }
 
-/// Queues an item of the queue with a value, in one try.
-pub(crate) fn queue_value<R: Abort, V: Drop>(
+/// Queues an item of the queue with its share, in one try.
+pub(crate) fn queue_value<R: Abort>(
     rt: &R,
-    sender: &mut ValueSender<V>,
+    sender: &mut ValueSender<Share>,
     item: u32,
-    value: V,
+    share: Share,
 ) {
     assert!(rt; item < sender.layout().items);
-    let answer = sender.queue_value(item, value, 1);
+    let answer = sender.queue_value(item, share, 1);
     assert!(rt; matches!(answer, ValueAnswer::Queued { .. }), "item {item}");
 }
 
 /// A queue of at least so many items, and its sender.
-pub(crate) fn empty_with_values<'a, R: Abort, V: Drop>(
+pub(crate) fn empty_with_values<'a, R: Abort>(
     rt: &'a R,
     alloc: Global,
     items: u32,
-) -> (ValueServed<V, Carrying<'a, R, V>>, ValueSender<V>) {
+) -> (Valued<'a, R>, ValueSender<Share>) {
     let layout = Layout::new(items.max(4), 1, 2).expect(rt, "a layout");
     let work = Carrying::new(rt, alloc);
     let Ok((worker, mut senders)) = ValueWorker::build(alloc, layout, work, 1) else {
@@ -111,10 +123,10 @@ fn filled_with_values<'a, R: Abort>(
     rt: &'a R,
     alloc: Global,
     count: u32,
-) -> (ValueServed<u64, Carrying<'a, R, u64>>, ValueSender<u64>) {
+) -> (Valued<'a, R>, ValueSender<Share>) {
     let (served, mut sender) = empty_with_values(rt, alloc, count);
     for item in 0..count {
-        queue_value(rt, &mut sender, item, value_of(item));
+        queue_value(rt, &mut sender, item, share_of(rt, alloc, item));
     }
     (served, sender)
 }
@@ -125,7 +137,7 @@ pub(crate) fn two_with_values<'a, R: Abort>(
     alloc: Global,
     first: u32,
     second: u32,
-) -> Vec<ValueServed<u64, Carrying<'a, R, u64>>> {
+) -> Vec<Valued<'a, R>> {
     let (one, _sender) = filled_with_values(rt, alloc, first);
     let (other, _sender) = filled_with_values(rt, alloc, second);
     Vec::from_array(alloc, [one, other]).expect(rt, "memory")
@@ -137,7 +149,7 @@ pub(crate) fn all_with_values<'a, R: Abort>(
     alloc: Global,
     queues: u32,
     count: u32,
-) -> Vec<ValueServed<u64, Carrying<'a, R, u64>>> {
+) -> Vec<Valued<'a, R>> {
     let mut all = Vec::new(alloc);
     for _turn in 0..queues {
         let (served, _sender) = filled_with_values(rt, alloc, count);
@@ -152,7 +164,7 @@ pub(crate) fn to_stop_with_values<'a, R: Abort>(
     alloc: Global,
     queues: u32,
     count: u32,
-) -> Vec<ValueServed<u64, Carrying<'a, R, u64>>> {
+) -> Vec<Valued<'a, R>> {
     let mut all = Vec::new(alloc);
     for _turn in 0..queues {
         let (served, mut sender) = filled_with_values(rt, alloc, count);
