@@ -7,7 +7,7 @@ PROGRAM := crates/wqrun/out/wqrun
 EXAMPLES := examples
 LIBRARY := crates/wq_c/out
 
-.PHONY: run try test build library install bench examples recordings rows c-api definitions memory wrong-bodies controls
+.PHONY: run try test build library install prefix bench examples recordings rows c-api definitions memory wrong-bodies controls
 
 run: build
 	$(PROGRAM) script $(EXAMPLES)/first.wq
@@ -29,12 +29,16 @@ library:
 	mkdir -p $(LIBRARY)
 	checks/c_library.sh $(LIBRARY)
 
-install: build library
+# Refused before anything is proved where PREFIX is no path from the root, as checks/c_install.sh refuses it.
+install: prefix build library
 	install -D -m 755 $(PROGRAM) "$(DESTDIR)$(PREFIX)/bin/wqrun"
 	install -D -m 644 man/wqrun.1 "$(DESTDIR)$(PREFIX)/share/man/man1/wqrun.1"
 	install -D -m 644 -t "$(DESTDIR)$(PREFIX)/share/doc/wqrun" docs/FORMATS.md docs/RECORDING.md
 	install -D -m 755 -t "$(DESTDIR)$(PREFIX)/share/doc/wqrun" examples/recording/wq_trace.py
 	checks/c_install.sh $(LIBRARY) "$(PREFIX)" "$(DESTDIR)"
+
+prefix:
+	@case "$(PREFIX)" in /*) ;; *) echo "PREFIX is $(PREFIX), and no path from the root" >&2; exit 1 ;; esac
 
 # Each example writes what is stored beside it, and ends with the status that is stored.
 examples: build

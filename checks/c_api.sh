@@ -123,7 +123,7 @@ else
 fi
 for sanitizer in address,undefined thread; do
     if sanitizes "${CC:-cc}" $sanitizer; then
-        for program in codes "threads 100" worker worker_answers pure "random $work/runs 1 20"; do
+        for program in codes "threads 100" worker "worker_answers 100" pure "random $work/runs 1 20"; do
             built "${program%% *}" -fsanitize=$sanitizer
             # shellcheck disable=SC2086 # the words of the program
             timeout 60 "${unmixed[@]}" "$work/"$program >"$work/said"

@@ -1,8 +1,8 @@
 /* Ordered workqueues for C: a front over the proved library `wq_c` (libyeangvos.a, libyeangvos.so). docs/C.md says how to use it.
  *
  * A queue has items (0 .. items-1), barriers (0 .. barriers-1) and a stop item. `wq_build` gives its owner a seat, `wq_hand_out` each
- * sender one. A seat is memory of the caller's, made vacant by `wq_init` before any other call, and not moved or copied until
- * `wq_release`. No call takes NULL for a seat, and none finds it out.
+ * sender one. A seat is memory of the caller's, aligned as its type says (malloc's is not), made vacant by `wq_init` before any other
+ * call, and not moved or copied until `wq_release`. No call takes NULL for a seat, and none finds it out.
  *
  * Threads: any thread may use a seat, but one call at a time may be in it. A seat is handed to another thread by that thread's
  * start or join, a lock, or a sequentially consistent atomic (the default of C11's atomic_store and atomic_load); different seats of

@@ -1,4 +1,5 @@
-"""Ordered workqueues for Python, by ctypes over libyeangvos.so: the calls of wq.h with the same names, as methods of a Seat.
+"""Ordered workqueues for Python, by ctypes over libyeangvos.so: the calls of wq.h with the same names but
+wq_measured_spins, which is C's alone, as methods of a Seat.
 
     owner, sender = Seat(), Seat()
     owner.build(items=4, barriers=1, senders=1)
@@ -14,8 +15,8 @@
 A call that is refused raises WqError with its code, and has changed nothing. A Seat owns its memory and lets one call at a time into
 it. It is given up by `release`, at the end of a `with`, or where nobody holds it any more; an owner's only once its queue has run to its
 end, else a dropped one loses the queue's memory, with a ResourceWarning. `check_history` judges a history. The library is the file that
-YEANGVOS_LIBRARY names, or libyeangvos.so.1 where the loader finds it. The import raises ImportError where a seat of it wants another
-alignment than a Seat has.
+YEANGVOS_LIBRARY names, or libyeangvos.so.1 where the loader finds it. The import raises OSError where it is not found, and ImportError
+where a seat of it wants another alignment than a Seat has.
 """
 import array
 import ctypes

@@ -1,6 +1,7 @@
 /* Calls that want no queue: the proved checker of histories. docs/C.md says how to use it.
  *
- * Any thread may call it at any time, also two at once. It takes memory for the size of the queue, and gives it back before it returns.
+ * Any thread may call it, also two at once, but no signal handler. It takes memory for the size of the queue, and gives it back before
+ * it returns.
  */
 #ifndef WQ_PURE_H
 #define WQ_PURE_H

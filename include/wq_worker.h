@@ -43,7 +43,7 @@ typedef struct wq_worker {
     uint32_t wanted;  /* the phase that was asked for */
     uint32_t reached; /* a futex: the phase that was reached */
     uint32_t bell;    /* a futex: counts the wake-ups of the worker */
-    uint32_t flushes; /* a futex: counts the barriers that were executed */
+    uint32_t flushes; /* a futex: counts the barriers that were executed, and the queueings that were turned back */
     uint32_t runs;    /* a futex: whether there is a thread to join */
     pthread_t thread;
 } wq_worker;
@@ -165,16 +165,22 @@ static inline uint32_t wq_worker_start(wq_worker *worker, wq_seat *owner, uint32
     return code;
 }
 
-/* Wakes the worker where a queueing of wq.h was answered WQ_WAKES, on which it would sleep on; for wq_queue_tries, wq_flush_begin and
- * wq_request_stop. Gives the code back. */
-static inline uint32_t wq_worker_wake(wq_worker *worker, uint32_t code) {
+static inline uint32_t wq_worker_ring(wq_worker *worker, uint32_t code) {
     if (wq_wakes(code)) wq_count(&worker->bell);
     return code;
 }
 
+/* Wakes the worker where a queueing of wq.h was answered WQ_WAKES, on which it would sleep on; for wq_queue_tries, wq_flush_begin and
+ * wq_request_stop. Where it was turned back, this wakes who sleeps in wq_worker_flush: a thread that flushes the same barrier may have
+ * seen its bit set meanwhile, and looks again. Gives the code back. */
+static inline uint32_t wq_worker_wake(wq_worker *worker, uint32_t code) {
+    if (code == WQ_CLOSED || code == WQ_DRAINING || code == WQ_CONTENDED) wq_count(&worker->flushes);
+    return wq_worker_ring(worker, code);
+}
+
 /* Queues an item, and wakes the worker where it sleeps. */
 static inline uint32_t wq_worker_queue(wq_worker *worker, wq_seat *sender, uint32_t item) {
-    return wq_worker_wake(worker, wq_queue(sender, item));
+    return wq_worker_ring(worker, wq_queue(sender, item));
 }
 
 /* Queues a barrier, and sleeps until all that was accepted before it has ended. Where the answer is no queueing it has not waited to
@@ -218,10 +224,15 @@ static inline void wq_worker_finish(wq_worker *worker) {
     worker->runs = 0;
 }
 /* The same, also after it, and gives the owner's seat up. The worker's memory is still that of each sender whose call has not returned
- * (above). WQ_NO_SEAT of a worker that was not started, in memory that is zero, and WQ_NOT_DONE in the worker's own function. */
+ * (above). WQ_NO_SEAT of a worker that was not started, in memory that is zero, or that has given its seat up, and WQ_NOT_DONE in the
+ * worker's own function. Who releases the seat behind wq_worker_finish does so once, by this or by wq_release. */
 static inline uint32_t wq_worker_stop(wq_worker *worker) {
+    uint32_t code;
     wq_worker_finish(worker);
-    return worker->owner ? wq_release(worker->owner) : (uint32_t)WQ_NO_SEAT;
+    if (!worker->owner) return WQ_NO_SEAT;
+    code = wq_release(worker->owner);
+    if (code == WQ_OK) worker->owner = NULL; /* a start that is refused writes nothing, and a stop may come behind it */
+    return code;
 }
 
 #ifdef __cplusplus

@@ -1,6 +1,6 @@
 /* What the calls of wq_worker.h do where a caller is at fault or calls wq.h besides: a worker is not started on a seat that it could
- * not execute from or that has one, what wq.h answered wakes it, a flush comes back though another call was in its seat, and a thread
- * is joined by another one, where there is one. */
+ * not execute from or that has one, what wq.h answered wakes it, a flush comes back though another call was in its seat or another
+ * thread flushes its barrier (worker_answers [RUNS]), and a thread is joined by another one, where there is one. */
 #include "check.h"
 #include "wq_worker.h"
 #include <dirent.h>
@@ -266,7 +266,42 @@ static void shut_inside(void) {
     }
 }
 
-int main(void) {
+static void *flush_until_closed(void *seat) {
+    while (wq_worker_flush(&worker, (wq_seat *)seat, 0) != WQ_CLOSED) { }
+    return NULL;
+}
+
+/* Threads that flush one barrier come back, though one may see its bit set while another holds it and is turned back. */
+static void sharing(int runs) {
+    enum { SHARE = 3 };
+    static wq_seat seats[SHARE];
+    const struct timespec some = {0, 200 * 1000};
+    for (int run = 0; run < runs; run++) {
+        pthread_t threads[SHARE];
+        CHECK(wq_init(&owner) == WQ_OK && wq_build(&owner, ITEMS, BARRIERS, SHARE) == WQ_OK);
+        for (int i = 0; i < SHARE; i++) CHECK(wq_init(&seats[i]) == WQ_OK && wq_hand_out(&owner, &seats[i]) == WQ_OK);
+        CHECK(wq_worker_start(&worker, &owner, ITEMS, count, &worker) == WQ_OK);
+        for (int i = 0; i < SHARE; i++) CHECK(pthread_create(&threads[i], NULL, flush_until_closed, &seats[i]) == 0);
+        nanosleep(&some, NULL);
+        CHECK(wq_worker_stop(&worker) == WQ_OK);
+        for (int i = 0; i < SHARE; i++) CHECK(pthread_join(threads[i], NULL) == 0 && wq_release(&seats[i]) == WQ_OK);
+    }
+}
+
+/* A stop behind a start that was refused gives nothing up, also in memory that had a worker before. */
+static void refused_again(void) {
+    build();
+    CHECK(wq_worker_start(&worker, &owner, ITEMS, count, &worker) == WQ_OK && wq_worker_stop(&worker) == WQ_OK);
+    CHECK(wq_worker_stop(&worker) == WQ_NO_SEAT && wq_release(&sender) == WQ_OK && wq_release(&other) == WQ_OK);
+    build();
+    is_refused_of(&owner, ITEMS + 1, WQ_NO_ITEM);
+    CHECK(wq_worker_stop(&worker) == WQ_NO_SEAT);
+    CHECK(wq_queue(&sender, 0) != WQ_NO_SEAT && wq_close(&owner, WQ_NO_NUMBER) == WQ_OK && wq_begin(&owner, WQ_NO_NUMBER) == WQ_OK);
+    CHECK(wq_end(&owner) == WQ_OK);
+    release_all();
+}
+
+int main(int argc, char **argv) {
     starting();
     second();
     started();
@@ -276,6 +311,8 @@ int main(void) {
     occupied();
     stopped_inside();
     shut_inside();
+    sharing(argc > 1 ? atoi(argv[1]) : 2000);
+    refused_again();
     puts("worker_answers: no start that gets nowhere, and no sleep without end");
     return 0;
 }
