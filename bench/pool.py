@@ -1,9 +1,9 @@
 #!/usr/bin/env python3
 """Times a pool of workers over eight queues that four senders queue on, by the program given and in C.
 
-usage: pool.py PROGRAM RUNS [ITEMS [WORD..]]
+usage: pool.py PROGRAM ROUNDS [ITEMS [WORD..]]
 
-Each run makes each row once with 1, 2 and 4 workers, in turn, with so many items (800,000). The words stand in front of each
+Each round makes each row once with 1, 2 and 4 workers, in turn, with so many items (800,000). The words stand in front of each
 command, as `chrt -f 10`, under which the threads that are measured go before all other work. The table has for each row the median
 of a million items a second with its quartiles, and below how many picks of a queue an item took. In C there is a mutex and a ring
 a queue, served by as many workers, and GLib's `GThreadPool` with one exclusive thread a queue: eight threads in each column.

@@ -15,11 +15,21 @@ import sys
 from pathlib import Path
 
 GOALS = Path(__file__).resolve().parent / "goals"
-# the log has the beginning of the first goal alone, so a long name may be cut off
-REFUSED = re.compile(r"must-fail (\S+)\.edit: refused, as it must be: note: src/\S+: .*?\(`([\w-]*)")
+# the log has the beginning of the first goal alone, so a long name may be cut off: one that is whole ends with its backquote
+REFUSED = re.compile(r"must-fail (\S+)\.edit: refused, as it must be: note: src/\S+: .*?\(`([\w-]*`?)")
 # with which option there are how many words at least
 FEWEST = {"--write": 2, "--controls": 3}
 PROVED = re.compile(r"must-fail (\S+)\.edit: NOT REFUSED")
+
+
+def is_goal(goal, seen):
+    """Whether what the log has of a goal is this goal: its whole name, or the beginning of it where the log cut it off."""
+    return f"{goal}`".startswith(seen)
+
+
+def named(seen):
+    """The name that the log has of a goal."""
+    return seen.rstrip("`")
 
 
 def controls_of(crates):
@@ -36,9 +46,9 @@ def compare_controls(rows, refused, proved, wanted):
     for body in sorted(refused.keys() | proved):
         goal, tells = (*rows.get(body, []), None, None)[:2]
         found = refused.get(body)
-        is_wrong = bool(found) and (goal if tells == "first" else tells or "").startswith(found)
+        is_wrong = bool(found) and is_goal(goal if tells == "first" else tells or "", found)
         faults += is_wrong
-        print(f"{body}: {f'refused first at {found}' if found else 'proved'}{', which is to tell its body from it' if is_wrong else ''}")
+        print(f"{body}: {f'refused first at {named(found)}' if found else 'proved'}{', which is to tell its body from it' if is_wrong else ''}")
     print(f"goals: {len(refused) + len(proved)} controls, {len(proved)} proved, {faults} not as wanted")
     return faults == 0
 
@@ -48,9 +58,8 @@ def compare(rows, refused):
     faults = 0
     for body in sorted(rows.keys() | refused.keys()):
         goal, seen = rows.get(body, [None])[0], refused.get(body)
-        # a name that was cut off is a beginning of the whole
-        if not (goal and seen and goal.startswith(seen)):
-            print(f"{body}: refused at {seen or 'no goal of the source'}, and not at {goal or 'one that is written down'}")
+        if not (goal and seen and is_goal(goal, seen)):
+            print(f"{body}: refused at {named(seen) if seen else 'no goal of the source'}, and not at {goal or 'one that is written down'}")
             faults += 1
     print(f"goals: {len(rows)} wrong bodies, {faults} not as wanted")
     return faults == 0
@@ -63,7 +72,7 @@ def main(words):
     refused = dict(REFUSED.findall(said))
     rows = {body: goals for body, *goals in map(str.split, GOALS.read_text().splitlines())}
     if words[0] == "--write":
-        lines = [[body, goal, *rows.get(body, [])[1:]] for body, goal in sorted(refused.items())]
+        lines = [[body, named(goal), *rows.get(body, [])[1:]] for body, goal in sorted(refused.items())]
         GOALS.write_text("".join(f"{' '.join(line)}\n" for line in lines))
         return 0
     if words[0] == "--controls":
