@@ -167,7 +167,9 @@ impl Cut {
             Cut::Unreadable | Cut::NoMemory => row.reads.saturating_add(1),
             Cut::Interrupted => row.reads,
             Cut::Unwritable => row.writes.saturating_add(2),
-            Cut::Pieces => (row.output.len() as u32).saturating_add(3),
+            Cut::Pieces => u32::try_from(row.output.len())
+                .unwrap_or(u32::MAX)
+                .saturating_add(3),
             Cut::Halting | Cut::Full => 1,
         }
     }
