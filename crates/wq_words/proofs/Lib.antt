@@ -6,6 +6,7 @@ pub mod Running
 pub mod Lasts
 pub mod Closed
 pub mod Drains
+pub mod Tells
 pub mod Legal
 pub mod Order
 pub mod Keepers
@@ -20,6 +21,7 @@ pub mod Seen
 pub mod OtherSeats
 pub mod ShutOwn
 pub mod DelayTable
+pub mod Counted
 pub mod Counting
 pub mod Appended
 pub mod Rest

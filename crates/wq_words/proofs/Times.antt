@@ -58,17 +58,23 @@ times_from_none k xs none = elim (cases_lt (times k xs) 1) [
   | inr some ↦ absurd (none (Contains_from_times k xs some))
 ]
 
-any_times : (k : ℕ) (xs : List ℕ) → IsTrue (list_any (λ y. y == k) xs) ↔ (1 ≤ times k xs)
-any_times k [] = (λ e. absurd (cc e), λ some. absurd (omega arith))
-any_times k (x ∷ xs) = go (x == k) refl (any_times k xs)
+-- whether any passes a test, by how many pass one that agrees with it
+pub any_counted : {X : Type 0} (p q : X → Bool) → ((x : X) → p x ≡ q x) → (xs : List X) → IsTrue (list_any p xs) ↔ (1 ≤ count_by q xs)
+any_counted p q same [] = (λ e. absurd (cc e), λ some. absurd (omega arith))
+any_counted p q same (x ∷ xs) = go (p x) refl (any_counted p q same xs)
   where
-    go : (b : Bool) → (x == k) ≡ b → (IsTrue (list_any (λ y. y == k) xs) ↔ (1 ≤ times k xs)) → IsTrue (list_any (λ y. y == k) (x ∷ xs)) ↔ (1 ≤ times k (x ∷ xs))
-    go true e rest = (λ _. omega (arith, times-cons k x xs, ap {B = ℕ} (λ (b : Bool). cond b 1 0) e), λ _. rw e refl)
-    go false e rest = rw e rest
+    one : count_by q (x ∷ xs) ≡ cond (p x) 1 0 + count_by q xs
+    one = rw (same x) (sum_by-cons (λ y. cond (q y) 1 0) x xs)
+
+    go : (b : Bool) → p x ≡ b → (IsTrue (list_any p xs) ↔ (1 ≤ count_by q xs)) → IsTrue (list_any p (x ∷ xs)) ↔ (1 ≤ count_by q (x ∷ xs))
+    go true e rest = (λ _. omega (arith, one, ap {B = ℕ} (λ (b : Bool). cond b 1 0) e), λ _. rw e refl)
+    go false e rest = let more : count_by q (x ∷ xs) ≡ count_by q xs = omega (arith, one, ap {B = ℕ} (λ (b : Bool). cond b 1 0) e) in rw (more, e) rest
 
 -- whether it stands in a list that is stored the other way round
 pub any_stored : (k : ℕ) (xs : List ℕ) → IsTrue (list_any (λ y. y == k) xs) ↔ Contains (reverse xs) k
-any_stored k xs = let any = any_times k xs in let same : times k (reverse xs) ≡ times k xs = omega (arith, times-reverse_aux k xs []) in
+any_stored k xs =
+    let any = any_counted (λ y. y == k) (λ y. y == k) (λ y. refl) xs in
+    let same : times k (reverse xs) ≡ times k xs = omega (arith, times-reverse_aux k xs []) in
     (λ e. Contains_from_times k (reverse xs) (omega (arith, same, any.0 e)), λ there. any.1 (omega (arith, same, times_from_Contains k (reverse xs) there)))
 
 -- numbers that each stand there once at most are distinct

@@ -3,6 +3,7 @@ pub mod Numbers
 pub mod Layout
 pub mod Head
 pub mod History
+pub mod Milestone
 pub mod Legal
 pub mod Listed
 pub mod Keeper

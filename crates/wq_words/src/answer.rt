@@ -5,7 +5,7 @@
 pub enum Answer {
     /// The number was queued (`queue_work` answers true): it is executed once at most, and has been once a close or a drain
     /// behind it has ended. `first` says that the list was empty (`llist_add` answers true), `wakes` that the queue rested:
-    /// who parks its owner after a rest wakes it.
+    /// where its owner parks after a rest, who is answered so wakes it.
     Queued { first: bool, wakes: bool },
     /// The number was pending already, and nothing was changed (`queue_work` answers false). Who set its bit may yet give it
     /// back: then it does not run, and who was told this learns nothing of it.
@@ -48,7 +48,7 @@ pub enum Armed {
     Draining,
     /// The delay is above `2^32 - 1`, or its tick or the number of the arming above `2^64 - 1`. Nothing was changed.
     TooFar,
-    /// Memory was refused. The item is not held.
+    /// Memory was refused. The item is not held. No call of `wq_delay` answers it, since a table takes all its memory when it is made.
     Memory,
 }
 
@@ -69,6 +69,6 @@ pub enum Modified {
     Draining,
     /// The delay is above `2^32 - 1`, or its tick or the number of the arming above `2^64 - 1`. Nothing was changed.
     TooFar,
-    /// Memory was refused. An item on the table stays there as it was; another is not held.
+    /// Memory was refused. An item on the table stays there as it was; another is not held. No call of `wq_delay` answers it.
     Memory,
 }

@@ -1,6 +1,6 @@
 //! What happens to a queue.
 ghost use Rattle.std.specs.Prelude.{◌≡◌, ◌↔◌, IsTrue};
-ghost use Rattle.wq_words.specs.History.{accepted_by, begun_by, ended_by, sets_pending, clears_pending, starts_hold, stops_hold, is_close, is_drain, is_resume};
+ghost use Rattle.wq_words.specs.History.{accepted_by, begun_by, ended_by, sets_pending, clears_pending, starts_hold, stops_hold, is_drain, is_resume};
 ghost use Rattle.wq_words.specs.Legal.{HasSeat, HasNumber};
 
 use crate::layout::Layout;
@@ -125,13 +125,6 @@ impl Event {
             Event::Back(holder, returned, _) => returned == number && holder == sender,
             _ => false,
         }
-    }
-
-    // Whether it closes the queue.
-    pub(crate) fn is_close(self) -> bool
-        ensures { result ≡ is_close self }
-    {
-        matches!(self, Event::Close)
     }
 
     // Whether it begins a drain.

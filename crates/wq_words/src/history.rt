@@ -2,10 +2,11 @@
 ghost use Rattle.std.specs.Prelude.{◌≡◌, ◌↔◌, IsTrue, length, OnOk, IfErr, IfSome, IfNone};
 ghost use Rattle.wq_words.specs.Legal.{MayFollow, IsCause, IsAllowed, HasFault, IsLegal, IsFirstFault};
 ghost use Rattle.wq_words.specs.History.{IsShut, IsRunning, ended, accepted};
+ghost use Rattle.wq_words.specs.declared.event.Event.TheVariants.{Push, Resume, Begin};
 
 use crate::counts::{
-    accepted_count, ended_count, has_drained, holds, is_closed, is_pending, is_running, is_shut,
-    next, running,
+    Milestone, has_drained, holds, is_closed, is_pending, is_running, is_shut, next, reached_count,
+    running,
 };
 use crate::event::{Event, Why};
 use crate::layout::Layout;
@@ -42,19 +43,37 @@ fn may_follow(history: &[Event], event: Event) -> bool
     match event {
         Event::Hold(_, number) => !is_pending(history, number),
         Event::Busy(_, number) => is_pending(history, number),
-        Event::Push(sender, number) => holds(history, sender, number) && !is_shut(history),
+        Event::Push(sender, number) => may_push(history, sender, number),
         Event::Back(sender, number, why) => {
             holds(history, sender, number) && is_cause(history, why)
         }
         Event::Take | Event::Drain => !is_shut(history),
         Event::Close => !is_closed(history),
-        Event::Resume => is_shut(history) && !is_closed(history) && all_ended(history),
-        Event::Begin(number) => !is_running(history) && next(history) == Some(number),
+        Event::Resume => may_resume(history),
+        Event::Begin(number) => may_begin(history, number),
         Event::End(number) => running(history) == Some(number),
         Event::Chain(number) => may_chain(history) && !is_pending(history, number),
         Event::ChainBusy(number) => may_chain(history) && is_pending(history, number),
         Event::Rest => !is_shut(history) && all_ended(history),
     }
+}
+
+fn may_push(history: &[Event], sender: u32, number: u32) -> bool
+    ensures { IsTrue result ↔ MayFollow history.now (Push sender number) }
+{
+    holds(history, sender, number) && !is_shut(history)
+}
+
+fn may_resume(history: &[Event]) -> bool
+    ensures { IsTrue result ↔ MayFollow history.now Resume }
+{
+    is_shut(history) && !is_closed(history) && all_ended(history)
+}
+
+fn may_begin(history: &[Event], number: u32) -> bool
+    ensures { IsTrue result ↔ MayFollow history.now (Begin number) }
+{
+    !is_running(history) && next(history) == Some(number)
 }
 
 // Whether a number may be given back for this: a drain that a sender saw may have ended since.
@@ -72,7 +91,7 @@ fn is_cause(history: &[Event], why: Why) -> bool
 fn all_ended(history: &[Event]) -> bool
     ensures { IsTrue result ↔ (length (ended history.now) ≡ length (accepted history.now)) }
 {
-    ended_count(history) == accepted_count(history)
+    reached_count(history, Milestone::Ended) == reached_count(history, Milestone::Accepted)
 }
 
 // Whether the execution that runs may chain: the queue takes no push, and a number runs.

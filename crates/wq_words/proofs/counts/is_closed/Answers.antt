@@ -1,0 +1,6 @@
+use Rattle.wq_words.proofs.Common.{rules, is_close}
+use Rattle.wq_words.proofs.Times.{any_counted}
+use Rattle.wq_words.proofs.counts.is_closed.Goals as goal
+
+pub returns : goal.returns
+returns c = rw c.contains.ensures.value (any_counted _ is_close (λ event. search rules) c.args.history.now)
