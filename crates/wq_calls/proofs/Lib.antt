@@ -6,6 +6,7 @@ pub mod Counting
 pub mod Sends
 pub mod Drained
 pub mod Tried
+pub mod Pushing
 pub mod Flushed
 pub mod Waiting
 pub mod Rows

@@ -33,6 +33,13 @@ module _ (h : List Event) where
       go false true e f = absurd (cc (is, phase_at false true e f))
       go false false e f = absurd (cc (is, phase_at false false e f))
 
+  -- whether its owner closed it, by the phase
+  pub closed_marked : phase h ≡ Closed → true ≡ closed h
+  closed_marked is = sym (closed_from_IsClosed h (closed_from_phase is))
+
+  pub closed_unmarked : ¬ (phase h ≡ Closed) → false ≡ closed h
+  closed_unmarked other = sym (closed_from_open h (λ is. other (phase_closed is)))
+
   pub draining_from_phase : phase h ≡ Draining → IsDraining h
   draining_from_phase is = go (closed h) (shut h) refl refl
     where

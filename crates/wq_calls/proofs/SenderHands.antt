@@ -113,6 +113,10 @@ module _ {V : Type 0} where
       subst (λ (c : Hand V). HasSlot k c × Carries m.items k (in_front c)) (sym (comes.some some'))
       ((None, refl), ((λ high. absurd (omega (arith, low, high))), λ high. refl))
 
+  -- the slot of a held number comes with nothing in it
+  pub came_empty : (k : ℕ) (r s : ValueStanding V) → HoldsSlot k true r s → 0 < r.queue.slots → HasSlot k s.hand
+  came_empty k r s comes some = (None, subst (HasValue k None) (sym (comes.some some)) refl)
+
   module _ (at k : ℕ) (r s t : ValueStanding V) (queue : s.queue ≡ r.queue) (comes : HoldsSlot k true r s) where
     slots : 0 < r.queue.slots → 0 < s.queue.slots
     slots some = subst (λ (q : TableId). 0 < q.slots) (sym queue) some

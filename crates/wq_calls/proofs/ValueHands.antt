@@ -12,6 +12,7 @@ use Rattle.wq_words.specs.declared.event.Event.TheVariants as event
 use Rattle.wq_words.proofs.Prefixes.{prefix_self}
 use Rattle.wq_table.specs.SlotSteps.{IsBrought}
 use Rattle.wq_table.specs.SlotChairs.{HasSlot, Exchanges, TurnsHand}
+use Rattle.wq_calls.specs.Hands.{OwnsEmptied}
 use Rattle.wq_calls.specs.KnownWith.{IsChained}
 use Rattle.wq_calls.proofs.Tells.{Tells}
 use Rattle.wq_calls.proofs.OwnerTells.{owner_batch}
@@ -48,6 +49,17 @@ module _ {V : Type 0} where
       (slots : OwnsSlots old (k ∷ ks)) (x : Exchanges k None y old mid) where
     has : HasHand old.first ((k, y) ∷ rest old.hand) (k ∷ ks)
     has = subst (λ (c : Hand V). HasHand old.first c (k ∷ ks)) x.was (slots.some deep)
+
+    -- so it is empty when it begins
+    pub emptied_slot : OwnsEmptied mid k ks
+    emptied_slot = record {
+      some = λ deep'. (
+        x.is ∙ ap (λ (c : Hand V). (k, None) ∷ c) (sym (ap rest x.is)),
+        subst (λ (z : ValuePart V × Hand V). HasHand z.0 z.1 ks) (λ i. (sym x.first_is i, sym (ap rest x.is) i))
+            (record { numbers_are = cc (has.numbers_are); each = has.each.1 }),
+      );
+      none = λ bare. absurd (omega (arith, deep, ap (λ (q : TableId). q.slots) x.queue_is, bare));
+    }
 
     pub emptied_value : (brs : List (Option V)) → Stands old.first.part → IsPrefix old.first.brought brs
         → slice_get brs (length (begun old.first.part.seen)) ≡ Some y

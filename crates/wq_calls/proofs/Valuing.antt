@@ -1,17 +1,18 @@
 -- The queueings of items with their values.
 use Rattle.wq_calls.proofs.Common.{◌≡◌, Bool, ℕ, ◌<◌, true, [], ◌∷◌, ◌++◌, Option, Some, sym, ap, ◌∙◌, subst, arith, TableId, rest, Layout, Push}
-use Rattle.wq_calls.proofs.Common.{Posted, Holds, own, number_count, Standing, Hand, ValueStanding, standing_of, part_in, HasValue, Learns}
+use Rattle.wq_calls.proofs.Common.{Back, None, Sees, Why, Posted, Holds, own, number_count, Standing, Hand, ValueStanding, standing_of, part_in, HasValue, Learns}
 use Rattle.wq_calls.proofs.Common.{LearnsOrStays, learns_on, learns_or, Sent, Known, TestsAndSets, Answers, IsContended, Sending, sending_in}
 use Rattle.wq_calls.proofs.Common.{sender_view, Sends, Settles, HoldsSlot, IsToBring, PostsSlot, answer_of, IsBroughtBy, sender_with}
 use Rattle.wq_words.specs.declared.answer.Answer.TheVariants as answer
 use Rattle.wq_words.specs.declared.answer.Posted.TheVariants as posted
+use Rattle.wq_table.specs.Chair.{HasSeen}
 use Rattle.wq_table.specs.SlotSteps.{in_front}
 use Rattle.wq_table.specs.SlotChairs.{Exchanges}
 use Rattle.wq_calls.specs.declared.value_answer.ValueAnswer.{ValueAnswer}
 use Rattle.wq_calls.specs.declared.value_answer.ValueAnswer.TheVariants as value
 use Rattle.wq_calls.specs.Sits.{sending}
 use Rattle.wq_calls.specs.Tries.{Tries, IsHeldAfter}
-use Rattle.wq_calls.specs.Hands.{Brings}
+use Rattle.wq_calls.specs.Hands.{Brings, IsEmptied, LeavesHand}
 use Rattle.wq_calls.specs.KnownWith.{BringsOrReturns}
 use Rattle.wq_calls.specs.Valued.{IsFilledAfter, Returns, SettlesValue}
 use Rattle.wq_calls.proofs.Sends.{sees_hold}
@@ -58,6 +59,31 @@ module _ {V : Type 0} where
     pub exchanged_learns : (at : ℕ) (c : ValueStanding V) → Learns at b c → Learns at a c
     exchanged_learns at c l = let m : Learns at (record a { hand = b.hand }) c = subst (λ (it : ValueStanding V). Learns at it c) exchanged_is l in
         record { follow = m.follow; brought = m.brought; know = m.know; told = m.told; right = m.right }
+
+  -- the value was taken out of the slot of k, which is then given back
+  module _ (at k : ℕ) (v : V) (a b : ValueStanding V) (s : Sent) (e : Exchanges k None (Some v) a b) where
+    same : sending_in at b s ≡ sending_in at a s
+    same = exchanged_sending k None (Some v) a b e at s
+
+    pub taken_ready : Sends (sending_in at a s) → k < s.layout.items → Holds (part_in at a).seen s.number k
+        → Sends (sending_in at b s) × (k < number_count s.layout) × Holds (part_in at b).seen s.number k × IsEmptied k b
+    taken_ready sends less held = (
+      subst Sends (sym same) sends,
+      omega (arith, less),
+      subst (λ (y : Sending). Holds y.chair.part.seen y.number k) (sym same) held,
+      λ some. exchanged_has k None (Some v) a b e,
+    )
+
+    pub taken_sees : (word : ℕ) → HasSeen word (part_in at a).stage → HasSeen word (part_in at b).stage
+    taken_sees word = subst (λ (y : Sending). HasSeen word y.chair.part.stage) (sym same)
+
+    pub taken_gives : (why : Why) (now : Known) → Sees (Back s.number k why ∷ []) 0 (sender_view (sending_in at b s)) now
+        → Sees (Back s.number k why ∷ []) 0 (sender_view (sending_in at a s)) now
+    taken_gives why now = subst (λ (y : Sending). Sees (Back s.number k why ∷ []) 0 (sender_view y) now) same
+
+    pub taken_back : (c : ValueStanding V) → 0 < a.queue.slots → LeavesHand b c → (c.hand ≡ rest a.hand) × (in_front a.hand ≡ Some v)
+    taken_back c some leaves =
+        (leaves.some (subst (λ (q : TableId). 0 < q.slots) (sym e.queue_is) some) ∙ behind_is k None (Some v) a b e, ap in_front e.was)
 
   -- an item was held, its slot came, and the value was put into it
   module _ (at k : ℕ) (v : V) (z : Option V) (a b x : ValueStanding V) (s t : Sent) (some : 0 < a.queue.slots) (less : k < s.layout.items)

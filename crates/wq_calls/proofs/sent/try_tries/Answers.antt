@@ -50,6 +50,14 @@ returns-in_default g c = let at = g.P.Place.at in let k = c.args.number in let i
   slots = posts_from at k c.attempt.result c.args.chair.now c.loop.chair c.attempt.new.chair inv.same.queue_is inv.hand e.slots;
 }
 
+pub attempt-requires-2-clause-number : goal.attempt-requires-2-clause-number
+attempt-requires-2-clause-number g c = subst (λ (l : Layout). c.args.number < number_count l) (sym c.loop.invariant.same.layout_is) c.requires.number
+
+pub attempt-requires-2-clause-slot : goal.attempt-requires-2-clause-slot
+attempt-requires-2-clause-slot g c = let inv = c.loop.invariant in
+    bring_from c.args.number c.args.sent.now.layout c.loop.sent.layout c.args.chair.now c.loop.chair inv.same.layout_is inv.same.queue_is inv.hand
+    c.requires.slot
+
 pub returns : goal.returns
 returns g c = let at = g.P.Place.at in let k = c.args.number in let inv = c.loop.invariant in let e = c.attempt-2.ensures in record {
   sends = e.sends;

@@ -1,6 +1,10 @@
+use Rattle.wq_calls.proofs.SenderHands.{came_empty}
 use Rattle.wq_calls.proofs.Settled.{contended_tries}
 use Rattle.wq_calls.proofs.Valuing.{put_ready, put_tried, put_settled}
 use Rattle.wq_calls.proofs.valued.queue_value_wait.Goals as goal
+
+pub exchange-requires : goal.exchange-requires
+exchange-requires g c = record { slot = came_empty c.args.item _ _ c.if-not-hold_number.ensures.slots c.requires.slots }
 
 pub try_waiting-posted-requires : goal.try_waiting-posted-requires
 try_waiting-posted-requires g c = let at = g.P.Place.at in let held = c.if-not-hold_number.ensures in

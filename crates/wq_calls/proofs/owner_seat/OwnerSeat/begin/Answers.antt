@@ -5,7 +5,7 @@ use Rattle.wq_calls.proofs.Tells.{Tells}
 use Rattle.wq_calls.proofs.Owned.{running_begun, counts_quiet, rests_on}
 use Rattle.wq_calls.proofs.Phases.{phase_quiet}
 use Rattle.wq_calls.proofs.Taking.{sees_then}
-use Rattle.wq_calls.proofs.Resting.{shut_stays, open_stays, unclosed_stays, accepted_still}
+use Rattle.wq_calls.proofs.Resting.{shut_stays, closed_stays, open_stays, unclosed_stays, accepted_still}
 use Rattle.wq_calls.proofs.Hanging.{first_of_row, first_known, begun_row}
 use Rattle.wq_calls.proofs.OwnerTells.{makes_stands, stands_batch, to_begin, begin_tells, begin_stage, owner_batch, owner_idle, owner_grows, owner_sees}
 use Rattle.wq_calls.proofs.OwnerHands.{begin_slots, emptied_batch}
@@ -119,6 +119,9 @@ returns-clause-batch g c = let s = owning c.args.self.now in let o = c.requires.
 pub returns-clause-shut : goal.returns-clause-shut
 returns-clause-shut g c = shut_stays (Begin c.args.self.now.row.front ∷ []) 0 (owner_view (owning c.args.self.now)) _ refl
     (returns-clause-seen g c) refl
+
+pub returns-clause-closed : goal.returns-clause-closed
+returns-clause-closed g c = closed_stays (Begin c.args.self.now.row.front ∷ []) 0 (owner_view (owning c.args.self.now)) _ (returns-clause-seen g c)
 
 pub returns-clause-open : goal.returns-clause-open
 returns-clause-open g c = open_stays (Begin c.args.self.now.row.front ∷ []) 0 (owner_view (owning c.args.self.now)) _ refl

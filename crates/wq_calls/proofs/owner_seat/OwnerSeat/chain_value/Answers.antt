@@ -5,7 +5,7 @@ use Rattle.wq_calls.proofs.Resting.{closed_stays, unclosed_stays, shut_stays, qu
 use Rattle.wq_calls.proofs.OwnerTells.{makes_stands}
 use Rattle.wq_calls.proofs.OwnerHands.{seat_slots}
 use Rattle.wq_calls.proofs.Chained.{busy_owns, busy_sees, busy_batch, clear_tells, clear_stage, clear_behind, chained_owns, chained_sees, chained_batch}
-use Rattle.wq_calls.proofs.ValueHands.{busy_hand, hung_follows, hung_chained, hung_value, hung_learns}
+use Rattle.wq_calls.proofs.ValueHands.{busy_hand, chained_slot, hung_follows, hung_chained, hung_value, hung_learns}
 use Rattle.wq_calls.proofs.OwnerStays.{still_executed, still_running}
 use Rattle.wq_calls.proofs.owner_seat.OwnerSeat.chain_value.Goals as goal
 
@@ -32,6 +32,14 @@ returns-then-chain_value-ne0 g c =
       closed = closed_stays (ChainBusy k ∷ []) 0 (owner_view s) _ sees;
       unclosed = unclosed_stays (ChainBusy k ∷ []) 0 (owner_view s) _ refl sees refl;
       runs = quiet_runs (ChainBusy k ∷ []) 0 (owner_view s) _ refl sees refl refl c.requires.runs;
+    }
+
+pub exchange-requires : goal.exchange-requires
+exchange-requires g c = let seat = c.args.self.now in let s = owning seat in let o = c.requires.owns.queue in let k = c.args.item in
+    let w = c.chain_value.result in let mid = c.chain_value.new.self in let step = c.chain_value.ensures.step in
+    let clear : w ≡ 0 = omega (arith, c.if-chain_value-ne0.false) in record {
+      slot = chained_slot k w c.args.value (kept_batch s.chair.part.stage) seat.chair mid o.number_is o.has_row.stage_is c.requires.slots clear step
+          (clear_tells k w s (standing_of mid) o step.steps clear);
     }
 
 pub hang-self-requires-clause-stands : goal.hang-self-requires-clause-stands
