@@ -5,11 +5,28 @@ use Rattle.wq_text.proofs.Common.{leb-true, and_parts, LineError, Most, Stage, L
 use Rattle.wq_text.proofs.Common.{by_first_word, is_plain, Bor}
 use Rattle.std.specs.declared.str.Utf8Error.{Utf8Error}
 use Rattle.std.proofs.lemmas.Str.{IsUtf8-from_ascii}
+use Rattle.wq_text.proofs.Common.{words_give, ◌>>=◌}
+use Rattle.wq_text.specs.Fault.{need}
+use Rattle.wq_text.specs.Line.{by_words}
+use Rattle.wq_text.specs.Word.{is_word}
+use Rattle.wq_text.specs.declared.fault.Kind.TheVariants as kind
 use Rattle.wq_text.specs.declared.fault.LineError.TheVariants as line_errors
 use Rattle.std.proofs.lemmas.List.Folds.{list_all-map}
 
 pub mapped_words : (ws : List (Bor (List ℕ))) → list_all (λ w. nat_lt 0 (length w)) (map (λ w. w.now) ws) ≡ list_all (λ w. nat_lt 0 (length w.now)) ws
 mapped_words ws = list_all-map (λ w. nat_lt 0 (length w)) (λ w. w.now) ws
+
+-- the words of a line, with a space too many and without
+module _ {N A : Type 0} (g : Grammar N A) (s : Stage) (ws : List (Bor (List ℕ))) where
+  pub spaced : list_all (λ w. is_word w.now) ws ≡ false → words_give g s (map (λ w. w.now) ws) ≡ Err kind.Space
+  unfolding words_give
+  spaced e = ap (λ b. need kind.Space b >>= λ _. by_words g s (map (λ w. w.now) ws)) (mapped_words ws ∙ e)
+
+  pub worded : (first : Bor (List ℕ)) (others : List (Bor (List ℕ))) → list_all (λ w. is_word w.now) ws ≡ true → ws ≡ first ∷ others
+      → words_give g s (map (λ w. w.now) ws) ≡ by_first_word g s first.now (map (λ w. w.now) others)
+  unfolding words_give
+  worded first others e same =
+      ap (λ b. need kind.Space b >>= λ _. by_words g s (map (λ w. w.now) ws)) (mapped_words ws ∙ e) ∙ ap (λ all. by_words g s (map (λ w. w.now) all)) same
 
 pub no_words : (ws : List (Bor (List ℕ))) → length ws ≡ 0 → map (λ w. w.now) ws ≡ []
 no_words [] e = refl

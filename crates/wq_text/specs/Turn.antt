@@ -13,6 +13,10 @@ use Rattle.wq_core.specs.declared.step.Step.TheVariants as step
 use Rattle.wq_text.specs.declared.fault.Kind.{Kind}
 use Rattle.wq_text.specs.declared.turn.Action.{Action}
 use Rattle.wq_text.specs.declared.turn.Action.TheVariants as action
+use Rattle.wq_text.specs.declared.turn.OwnersStep.{OwnersStep}
+use Rattle.wq_text.specs.declared.turn.OwnersStep.TheVariants as owners
+use Rattle.wq_text.specs.declared.turn.SendersStep.{SendersStep}
+use Rattle.wq_text.specs.declared.turn.SendersStep.TheVariants as senders
 use Rattle.wq_text.specs.Arguments.{sender, item, barrier, no_word, one_word, two_words, one}
 use Rattle.wq_text.specs.Fault.{◌>>=◌, of_none, of_one, of_two}
 use Rattle.wq_text.specs.Line.{Grammar, Lines}
@@ -43,14 +47,14 @@ link_of l w = if bytes_eq w (codes "end") then Ok None else of_one Some (number_
 -- the steps of the owner, those of a sender, and the causes of giving back
 unfoldable pub owners_action : List ℕ → Option Action
 owners_action w =
-    if bytes_eq w (codes "take") then Some action.Take
-    else if bytes_eq w (codes "close") then Some action.Close
-    else if bytes_eq w (codes "walk") then Some action.Walk
-    else if bytes_eq w (codes "begin") then Some action.Begin
-    else if bytes_eq w (codes "end") then Some action.End
+    if bytes_eq w (codes "take") then Some (action.Owner owners.Take)
+    else if bytes_eq w (codes "close") then Some (action.Owner owners.Close)
+    else if bytes_eq w (codes "walk") then Some (action.Owner owners.Walk)
+    else if bytes_eq w (codes "begin") then Some (action.Owner owners.Begin)
+    else if bytes_eq w (codes "end") then Some (action.Owner owners.End)
     else if bytes_eq w (codes "chain") then Some action.Chain
     else if bytes_eq w (codes "turn") then Some action.Turn
-    else if bytes_eq w (codes "rest") then Some action.Rest
+    else if bytes_eq w (codes "rest") then Some (action.Owner owners.Rest)
     else None
 
 unfoldable pub cause_at : List ℕ → Option Why
@@ -66,12 +70,12 @@ why_at w = if bytes_eq w (codes "draining") then Some why.Draining else cause_at
 
 unfoldable pub senders_action : List ℕ → List ℕ → Option Action
 senders_action w last =
-    if bytes_eq w (codes "hold") then Some action.Hold
+    if bytes_eq w (codes "hold") then Some (action.Sender senders.Hold)
     else if bytes_eq w (codes "look") then Some action.Look
-    else if bytes_eq w (codes "link") then Some action.Link
-    else if bytes_eq w (codes "push") then Some action.Push
+    else if bytes_eq w (codes "link") then Some (action.Sender senders.Link)
+    else if bytes_eq w (codes "push") then Some (action.Sender senders.Push)
     else if bytes_eq w (codes "back") then option_map action.Back (cause_at last)
-    else if bytes_eq w (codes "check") then Some action.Check
+    else if bytes_eq w (codes "check") then Some (action.Sender senders.Check)
     else None
 
 -- which step the first word and the others name: the owner's behind o, a sender's behind any other word
@@ -87,8 +91,8 @@ action_at w ws =
 -- the same in version 2
 unfoldable pub owners_action_2 : List ℕ → Option Action
 owners_action_2 w =
-    if bytes_eq w (codes "drain") then Some action.Drain
-    else if bytes_eq w (codes "resume") then Some action.Resume
+    if bytes_eq w (codes "drain") then Some (action.Owner owners.Drain)
+    else if bytes_eq w (codes "resume") then Some (action.Owner owners.Resume)
     else owners_action w
 
 unfoldable pub senders_action_2 : List ℕ → List ℕ → Option Action
@@ -124,22 +128,29 @@ number_and_link l ws = do
 abbrev pub without_last : List (List ℕ) → List (List ℕ)
 without_last ws = take (length ws - 1) ws
 
+-- the sender's step of this number, and the owner's without one
+abbrev pub senders_step : SendersStep → ℕ → Step
+senders_step senders.Hold k = step.Hold k
+senders_step senders.Link k = step.Link k
+senders_step senders.Push k = step.Push k
+senders_step senders.Check k = step.Check k
+
+abbrev pub owners_step : OwnersStep → Step
+owners_step owners.Take = step.Take
+owners_step owners.Close = step.Close
+owners_step owners.Drain = step.Drain
+owners_step owners.Resume = step.Resume
+owners_step owners.Walk = step.Walk
+owners_step owners.Begin = step.Begin
+owners_step owners.End = step.End
+owners_step owners.Rest = step.Rest
+
 -- the table of steps, by the first word and the words behind the second
 unfoldable pub turn_gives : Layout → Action → List ℕ → List (List ℕ) → Result Turn Kind
-turn_gives l action.Hold w ws = of_two (λ s k. (seat.Sender s, step.Hold k)) (seat_and_number l w ws)
+turn_gives l (action.Sender kind) w ws = of_two (λ s k. (seat.Sender s, senders_step kind k)) (seat_and_number l w ws)
 turn_gives l action.Look w ws = of_one (λ s. (seat.Sender s, step.Look)) (seat_alone l w ws)
-turn_gives l action.Link w ws = of_two (λ s k. (seat.Sender s, step.Link k)) (seat_and_number l w ws)
-turn_gives l action.Push w ws = of_two (λ s k. (seat.Sender s, step.Push k)) (seat_and_number l w ws)
 turn_gives l (action.Back cause) w ws = of_two (λ s k. (seat.Sender s, step.Back k cause)) (seat_and_number l w (without_last ws))
-turn_gives l action.Check w ws = of_two (λ s k. (seat.Sender s, step.Check k)) (seat_and_number l w ws)
-turn_gives l action.Take w ws = of_none (seat.Owner, step.Take) (no_word ws)
-turn_gives l action.Close w ws = of_none (seat.Owner, step.Close) (no_word ws)
-turn_gives l action.Drain w ws = of_none (seat.Owner, step.Drain) (no_word ws)
-turn_gives l action.Resume w ws = of_none (seat.Owner, step.Resume) (no_word ws)
-turn_gives l action.Walk w ws = of_none (seat.Owner, step.Walk) (no_word ws)
-turn_gives l action.Begin w ws = of_none (seat.Owner, step.Begin) (no_word ws)
-turn_gives l action.End w ws = of_none (seat.Owner, step.End) (no_word ws)
-turn_gives l action.Rest w ws = of_none (seat.Owner, step.Rest) (no_word ws)
+turn_gives l (action.Owner kind) w ws = of_none (seat.Owner, owners_step kind) (no_word ws)
 turn_gives l action.Chain w ws = of_one (λ k. (seat.Owner, step.Chain k)) (one (item l) ws)
 turn_gives l action.Turn w ws = of_two (λ k next. (seat.Owner, step.Turn k next)) (number_and_link l ws)
 

@@ -135,24 +135,20 @@ fn word_and_at_most_four<'a, 'b>(
     Ok((*first, others))
 }
 
-pub(crate) fn sender_and_item(layout: Layout, words: &[&str]) -> Result<(u32, u32), LineError>
-    ensures exact { LineGives result (two (sender layout) (item layout) (map (λ w. w.now) words.now)) }
-    ensures within { IfOk result (λ n. (n.0 < layout.senders) × (n.1 < layout.items)) }
+// A sender, and a number below `bound`.
+pub(crate) fn sender_and_below(
+    layout: Layout,
+    kind: Kind,
+    bound: u32,
+    words: &[&str],
+) -> Result<(u32, u32), LineError>
+    ensures exact { LineGives result (two (sender layout) (below kind bound) (map (λ w. w.now) words.now)) }
+    ensures within { IfOk result (λ n. (n.0 < layout.senders) × (n.1 < bound)) }
 {
-    let (sender_word, item_word) = two_words(words)?;
+    let (sender_word, word) = two_words(words)?;
     let sender = sender(layout, sender_word)?;
-    let item = item(layout, item_word)?;
-    Ok((sender, item))
-}
-
-pub(crate) fn sender_and_barrier(layout: Layout, words: &[&str]) -> Result<(u32, u32), LineError>
-    ensures exact { LineGives result (two (sender layout) (barrier layout) (map (λ w. w.now) words.now)) }
-    ensures within { IfOk result (λ n. (n.0 < layout.senders) × (n.1 < layout.barriers)) }
-{
-    let (sender_word, barrier_word) = two_words(words)?;
-    let sender = sender(layout, sender_word)?;
-    let barrier = barrier(layout, barrier_word)?;
-    Ok((sender, barrier))
+    let number = below(kind, bound, word)?;
+    Ok((sender, number))
 }
 
 // An item and a delay in ticks.

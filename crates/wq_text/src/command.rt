@@ -64,8 +64,10 @@ impl Command {
                 *sender < layout.senders && *barrier < layout.barriers
             }
             Command::Stop(sender) => *sender < layout.senders,
-            Command::Check(item) | Command::Cancel(item) => *item < layout.items,
-            Command::Arm { item, .. } | Command::Modify { item, .. } => *item < layout.items,
+            Command::Check(item)
+            | Command::Cancel(item)
+            | Command::Arm { item, .. }
+            | Command::Modify { item, .. } => *item < layout.items,
             Command::Run(_)
             | Command::Drain(_)
             | Command::DrainAndResume(_)

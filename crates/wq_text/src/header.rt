@@ -50,7 +50,7 @@ impl Stage {
 pub(crate) fn is_header(word: &str) -> bool
     ensures { result ≡ is_header word.now }
 {
-    word == "items" || word == "senders" || word == "barriers"
+    matches!(word, "items" | "senders" | "barriers")
 }
 
 // The layout of these numbers, or the fault `kind`.
@@ -89,16 +89,16 @@ pub(crate) fn header_line(
     ensures exact { LineGives result (header_line_gives names_seats most stage first.now (map (λ w. w.now) others.now)) }
     ensures sound { IfOk result (KeepsHeader most.senders stage) }
 {
-    match stage {
-        Stage::Items if first == "items" => {
+    match (stage, first) {
+        (Stage::Items, "items") => {
             let items = one_between(Kind::Items, 1, most.items, others)?;
             behind_items(names_seats, most, items)
         }
-        Stage::Senders(layout) if first == "senders" => {
+        (Stage::Senders(layout), "senders") => {
             let senders = one_between(Kind::Senders, 1, most.senders, others)?;
             limited(Kind::Senders, layout.items, 1, senders).map(Stage::Barriers)
         }
-        Stage::Barriers(layout) if first == "barriers" => {
+        (Stage::Barriers(layout), "barriers") => {
             let barriers = one_between(Kind::Barriers, 1, 16, others)?;
             limited(Kind::Barriers, layout.items, barriers, layout.senders).map(Stage::Commands)
         }

@@ -97,7 +97,6 @@ fn are_words(words: &[&str]) -> bool
 }
 
 // A line of words.
-#[tactic(auto, using(crate::proofs::LineWords::mapped_words), unfolding(crate::specs::Line::words_give))]
 fn words_line<L: Language>(
     stage: Stage,
     words: &[&str],

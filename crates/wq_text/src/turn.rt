@@ -1,27 +1,29 @@
 //! The steps of a schedule, as words.
-ghost use Rattle.std.specs.Prelude.{◌≡◌, ◌≢◌, ◌<◌, Err, map, MatchOption, IfOk, IfSome};
+ghost use Rattle.std.specs.Prelude.{◌≡◌, ◌≢◌, ◌<◌, ◌-◌, ◌==◌, Err, true, false, length, map, MatchOption, IfOk, IfSome};
 ghost use Rattle.wq_words.specs.Numbers.{number_count};
 ghost use Rattle.wq_text.specs.declared.fault.LineError.TheVariants.{Memory};
-ghost use Rattle.wq_text.specs.Fault.{LineGives, of_none};
+ghost use Rattle.wq_text.specs.Fault.{LineGives, of_two};
 ghost use Rattle.wq_text.specs.Word.{other_words};
-ghost use Rattle.wq_text.specs.Turn.{after_b, number_of_queue, link_of, owners_action, senders_action, cause_at, why_at, owners_action_2, senders_action_2, action_at, action_at_2, seat_alone, seat_and_number, number_and_link, without_last, turn_gives};
+ghost use Rattle.wq_text.specs.Turn.{after_b, number_of_queue, link_of, owners_action, senders_action, cause_at, why_at, nth_word, owners_action_2, senders_action_2, action_at, action_at_2, seat_alone, seat_and_number, number_and_link, without_last, senders_step, owners_step, turn_gives};
 ghost use Rattle.wq_text.specs.Turns.{PlacedIn};
-ghost use Rattle.wq_text.specs.Arguments.{no_word};
 
 use crate::arguments::{barrier, item, no_word, one_item, one_word, sender, two_words};
 use crate::fault::LineError;
 use wq_core::{Seat, Step};
 use wq_words::{Layout, Why};
 
-// What a step does, without its seat and number.
+// A sender's step with one number of the queue, and no cause.
 #[derive(Clone, Copy)]
-pub(crate) enum Action {
+pub(crate) enum SendersStep {
     Hold,
-    Look,
     Link,
     Push,
-    Back(Why),
     Check,
+}
+
+// An owner's step with no number.
+#[derive(Clone, Copy)]
+pub(crate) enum OwnersStep {
     Take,
     Close,
     Drain,
@@ -29,9 +31,18 @@ pub(crate) enum Action {
     Walk,
     Begin,
     End,
+    Rest,
+}
+
+// What a step does, without its seat and numbers. Look and Back are a sender's too, Chain and Turn an owner's.
+#[derive(Clone, Copy)]
+pub(crate) enum Action {
+    Sender(SendersStep),
+    Look,
+    Back(Why),
+    Owner(OwnersStep),
     Chain,
     Turn,
-    Rest,
 }
 
 fn digits_of_barrier(word: &str) -> Option<&str>
@@ -47,12 +58,12 @@ pub fn number_of_queue(layout: Layout, word: &str) -> Result<u32, LineError>
     ensures within { IfOk result (λ n. n < number_count layout) }
     ensures memory { result ≢ Err Memory }
 {
-    if word == "stop" {
-        return Ok(layout.stop());
-    }
-    match digits_of_barrier(word) {
-        Some(digits) => Ok(layout.barrier(barrier(layout, digits)?)),
-        None => item(layout, word),
+    match word {
+        "stop" => Ok(layout.stop()),
+        _ => match digits_of_barrier(word) {
+            Some(digits) => Ok(layout.barrier(barrier(layout, digits)?)),
+            None => item(layout, word),
+        },
     }
 }
 
@@ -61,14 +72,14 @@ fn owners_action(word: &str) -> Option<Action>
     ensures { result ≡ owners_action word.now }
 {
     match word {
-        "take" => Some(Action::Take),
-        "close" => Some(Action::Close),
-        "walk" => Some(Action::Walk),
-        "begin" => Some(Action::Begin),
-        "end" => Some(Action::End),
+        "take" => Some(Action::Owner(OwnersStep::Take)),
+        "close" => Some(Action::Owner(OwnersStep::Close)),
+        "walk" => Some(Action::Owner(OwnersStep::Walk)),
+        "begin" => Some(Action::Owner(OwnersStep::Begin)),
+        "end" => Some(Action::Owner(OwnersStep::End)),
         "chain" => Some(Action::Chain),
         "turn" => Some(Action::Turn),
-        "rest" => Some(Action::Rest),
+        "rest" => Some(Action::Owner(OwnersStep::Rest)),
         _ => None,
     }
 }
@@ -79,8 +90,8 @@ fn owners_action_2(word: &str) -> Option<Action>
     ensures { result ≡ owners_action_2 word.now }
 {
     match word {
-        "drain" => Some(Action::Drain),
-        "resume" => Some(Action::Resume),
+        "drain" => Some(Action::Owner(OwnersStep::Drain)),
+        "resume" => Some(Action::Owner(OwnersStep::Resume)),
         _ => owners_action(word),
     }
 }
@@ -114,12 +125,12 @@ fn senders_action(word: &str, last: &str) -> Option<Action>
     ensures { result ≡ senders_action word.now last.now }
 {
     match word {
-        "hold" => Some(Action::Hold),
+        "hold" => Some(Action::Sender(SendersStep::Hold)),
         "look" => Some(Action::Look),
-        "link" => Some(Action::Link),
-        "push" => Some(Action::Push),
-        "back" => Some(Action::Back(cause_of(last)?)),
-        "check" => Some(Action::Check),
+        "link" => Some(Action::Sender(SendersStep::Link)),
+        "push" => Some(Action::Sender(SendersStep::Push)),
+        "back" => cause_of(last).map(Action::Back),
+        "check" => Some(Action::Sender(SendersStep::Check)),
         _ => None,
     }
 }
@@ -130,7 +141,7 @@ fn senders_action_2(word: &str, last: &str) -> Option<Action>
     ensures { result ≡ senders_action_2 word.now last.now }
 {
     match word {
-        "back" => Some(Action::Back(why_of(last)?)),
+        "back" => why_of(last).map(Action::Back),
         _ => senders_action(word, last),
     }
 }
@@ -161,28 +172,48 @@ fn link_of(layout: Layout, word: &str) -> Result<Option<u32>, LineError>
     ensures exact { LineGives result (link_of layout word.now) }
     ensures within { IfOk result (λ next. IfSome next (λ k. k < number_count layout)) }
 {
-    if word == "end" {
-        return Ok(None);
+    match word {
+        "end" => Ok(None),
+        _ => number_of_queue(layout, word).map(Some),
     }
-    Ok(Some(number_of_queue(layout, word)?))
 }
 
-fn number_and_link(layout: Layout, words: &[&str]) -> Result<(u32, Option<u32>), LineError>
-    ensures exact { LineGives result (number_and_link layout (map (λ w. w.now) words.now)) }
-    ensures within { IfOk result (λ n. (n.0 < number_count layout) × IfSome n.1 (λ k. k < number_count layout)) }
+// The owner's turn of a number's link.
+fn link_turn(layout: Layout, words: &[&str]) -> Result<(Seat, Step), LineError>
+    ensures exact { LineGives result (of_two (λ k next. (Seat.Owner, Step.Turn k next)) (number_and_link layout (map (λ w. w.now) words.now))) }
+    ensures fits { IfOk result (PlacedIn layout) }
 {
     let (word, next_word) = two_words(words)?;
     let number = number_of_queue(layout, word)?;
     let next = link_of(layout, next_word)?;
-    Ok((number, next))
+    Ok((Seat::Owner, Step::Turn(number, next)))
 }
 
-// An owner's step with no further words.
-fn owners_turn(step: Step, words: &[&str]) -> Result<(Seat, Step), LineError>
-    ensures exact { LineGives result (of_none (Seat.Owner, step) (no_word (map (λ w. w.now) words.now))) }
-    ensures owners { IfOk result (λ turn. turn ≡ (Seat.Owner, step)) }
+// The sender's step of this number.
+fn senders_step(step: SendersStep, number: u32) -> Step
+    ensures { result ≡ senders_step step number }
 {
-    no_word(words).map(|()| (Seat::Owner, step))
+    match step {
+        SendersStep::Hold => Step::Hold(number),
+        SendersStep::Link => Step::Link(number),
+        SendersStep::Push => Step::Push(number),
+        SendersStep::Check => Step::Check(number),
+    }
+}
+
+fn owners_step(step: OwnersStep) -> Step
+    ensures { result ≡ owners_step step }
+{
+    match step {
+        OwnersStep::Take => Step::Take,
+        OwnersStep::Close => Step::Close,
+        OwnersStep::Drain => Step::Drain,
+        OwnersStep::Resume => Step::Resume,
+        OwnersStep::Walk => Step::Walk,
+        OwnersStep::Begin => Step::Begin,
+        OwnersStep::End => Step::End,
+        OwnersStep::Rest => Step::Rest,
+    }
 }
 
 // A step's turn, from its first word and the words behind the second.
@@ -197,46 +228,27 @@ pub(crate) fn turn(
     ensures fits { IfOk result (PlacedIn layout) }
 {
     match action {
-        Action::Hold => {
+        Action::Sender(step) => {
             let (sender, number) = seat_and_number(layout, first, words)?;
-            Ok((Seat::Sender(sender), Step::Hold(number)))
+            Ok((Seat::Sender(sender), senders_step(step, number)))
         }
         Action::Look => {
             let sender = seat_alone(layout, first, words)?;
             Ok((Seat::Sender(sender), Step::Look))
         }
-        Action::Link => {
-            let (sender, number) = seat_and_number(layout, first, words)?;
-            Ok((Seat::Sender(sender), Step::Link(number)))
-        }
-        Action::Push => {
-            let (sender, number) = seat_and_number(layout, first, words)?;
-            Ok((Seat::Sender(sender), Step::Push(number)))
-        }
         Action::Back(why) => {
             let (sender, number) = seat_and_number(layout, first, without_last(words))?;
             Ok((Seat::Sender(sender), Step::Back(number, why)))
         }
-        Action::Check => {
-            let (sender, number) = seat_and_number(layout, first, words)?;
-            Ok((Seat::Sender(sender), Step::Check(number)))
+        Action::Owner(step) => {
+            no_word(words)?;
+            Ok((Seat::Owner, owners_step(step)))
         }
-        Action::Take => owners_turn(Step::Take, words),
-        Action::Close => owners_turn(Step::Close, words),
-        Action::Drain => owners_turn(Step::Drain, words),
-        Action::Resume => owners_turn(Step::Resume, words),
-        Action::Walk => owners_turn(Step::Walk, words),
-        Action::Begin => owners_turn(Step::Begin, words),
-        Action::End => owners_turn(Step::End, words),
-        Action::Rest => owners_turn(Step::Rest, words),
         Action::Chain => {
             let number = one_item(layout, words)?;
             Ok((Seat::Owner, Step::Chain(number)))
         }
-        Action::Turn => {
-            let (number, next) = number_and_link(layout, words)?;
-            Ok((Seat::Owner, Step::Turn(number, next)))
-        }
+        Action::Turn => link_turn(layout, words),
     }
 }
 
@@ -247,17 +259,26 @@ pub fn without_last<'a, 'b>(words: &'b [&'a str]) -> &'b [&'a str]
     &words[..words.len().saturating_sub(1)]
 }
 
+// The word that names a step, and the last one.
+fn word_and_last<'a>(words: &[&'a str]) -> Option<(&'a str, &'a str)>
+    ensures { let all = map (λ w. w.now) words.now in MatchOption result ((length all == 0) ≡ true) (λ w. ((length all == 0) ≡ false) × (w.0.now ≡ nth_word 0 all) × (w.1.now ≡ nth_word (length all - 1) all)) }
+{
+    match words {
+        [] => None,
+        [word, ..] => Some((word, words[words.len() - 1])),
+    }
+}
+
 // Which step the words of a line name, of which two at least have to stand there.
 pub(crate) fn action_of(first: &str, others: &[&str]) -> Option<Action>
     ensures { result ≡ action_at first.now (map (λ w. w.now) others.now) }
 {
-    if others.is_empty() {
-        return None;
-    }
-    if first == "o" {
-        owners_action(others[0])
-    } else {
-        senders_action(others[0], others[others.len() - 1])
+    match word_and_last(others) {
+        None => None,
+        Some((word, last)) => match first {
+            "o" => owners_action(word),
+            _ => senders_action(word, last),
+        },
     }
 }
 
@@ -265,13 +286,12 @@ pub(crate) fn action_of(first: &str, others: &[&str]) -> Option<Action>
 pub(crate) fn action_of_2(first: &str, others: &[&str]) -> Option<Action>
     ensures { result ≡ action_at_2 first.now (map (λ w. w.now) others.now) }
 {
-    if others.is_empty() {
-        return None;
-    }
-    if first == "o" {
-        owners_action_2(others[0])
-    } else {
-        senders_action_2(others[0], others[others.len() - 1])
+    match word_and_last(others) {
+        None => None,
+        Some((word, last)) => match first {
+            "o" => owners_action_2(word),
+            _ => senders_action_2(word, last),
+        },
     }
 }
 
