@@ -21,7 +21,8 @@ use wq_calls::{Done, OwnerCounts, OwnerSeat};
 use wq_words::{Answer, Layout};
 
 /// The owner of a queue, who takes what was pushed and executes it, one number at a time, in the order of the pushes. It
-/// may be moved to another thread. No call takes a lock or memory, or waits.
+/// may be moved to another thread. No call takes a lock or memory, or waits. One that is dropped leaves what it took, and all that is
+/// pushed after that, pending for good.
 #[derive(Drop)]
 pub struct Owner {
     pub(crate) seat: OwnerSeat<Bare>,
@@ -61,7 +62,7 @@ impl Owner {
     }
 
     /// Takes all that stands on the list, and answers how many that is (`llist_del_all`). An owner that serves by a loop of its
-    /// own takes more at a time where some time passes after a short take: `wq_worker` has the bounds that its `serve` uses.
+    /// own takes more at a time where some time passes after a short take, as `serve` of `wq_worker` lets `Spins` pass.
     pub fn take(&mut self) -> u32
         requires open { ¬ IsShut self.old.seen }
         requires empty { batch self.old.seen ≡ [] }

@@ -1,10 +1,29 @@
+use Rattle.wq_live.proofs.Common.{◌≡◌, [], ◌∷◌, sym, ap, ◌∙◌, subst, Take, IsRunning, IsShut, accepted, begun, ended, own, owner_seat, batch, KnownPair}
+use Rattle.wq_live.proofs.Common.{pair_owner, Sees, owning, owner_view}
 use Rattle.wq_calls.proofs.InOneSeat.{sender_sees}
 use Rattle.wq_live.proofs.PlainPaired.{pair_acts}
 use Rattle.wq_live.proofs.pair.Pair.take.Goals as goal
 
+pub take-requires : goal.take-requires
+take-requires c = let back = sym c.self.view_is in record {
+  owns = c.self.invariant.seated.owns;
+  «open» = subst (λ (k : KnownPair). ¬ IsShut k.seen) back c.requires.«open»;
+  empty = subst (λ (k : KnownPair). batch k.seen ≡ []) back c.requires.empty;
+}
+
+pub returns : goal.returns
+returns c = let s = c.self.inside in let e = c.take.ensures in let is = c.self.view_is in let new = owner_view (owning c.take.new.self) in record {
+  seen = subst (λ (k : KnownPair). Sees (Take ∷ []) 0 (pair_owner k) new) is e.seen;
+  unqueued = e.unqueued ∙ ap (λ (k : KnownPair). accepted (own owner_seat k.seen)) is;
+  executions = subst (λ (k : KnownPair). (begun new.seen ≡ begun k.seen) × (ended new.seen ≡ ended k.seen)) is e.executions;
+  takes = e.takes;
+  count = e.count;
+  «open» = e.«open»;
+  unclosed = e.unclosed;
+  idle = subst (λ (k : KnownPair). ¬ IsRunning k.seen → ¬ IsRunning new.seen) is e.idle;
+  runs = subst (λ (k : KnownPair). IsRunning k.seen → IsRunning new.seen) is e.runs;
+  others = sender_sees s.seat c.take.new.self s.sent c.self.invariant.seated e.owns e.seen.same e.learns c.args.self.now is;
+}
+
 pub invariant_of-self : goal.invariant_of-self
 invariant_of-self c = let e = c.take.ensures in pair_acts c.self.inside c.self.invariant c.take.new.self e.owns e.seen.same e.learns
-
-pub returns-clause-others : goal.returns-clause-others
-returns-clause-others c = let e = c.take.ensures in let s = c.self.inside in
-    sender_sees s.seat c.take.new.self s.sent c.self.invariant.seated e.owns e.seen.same e.learns c.args.self.now c.self.view_is
