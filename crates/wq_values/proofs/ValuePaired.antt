@@ -4,6 +4,7 @@ use Rattle.wq_values.proofs.Common.{AreBrought, ValuePart, all_see, plain_view, 
 use Rattle.wq_values.proofs.Common.{IsSame, Sees, owning, owner_view, sending_in, sender_view, Sends, OwnsSeat, OwnsValues, SendsValues, KnownWith}
 use Rattle.wq_values.proofs.Common.{Learnt, owner_with, sender_with, AreKnown, pair_owner, AreSeated, KnownValuePair, owner_of}
 use Rattle.wq_table.specs.Slots.{ValueView}
+use Rattle.wq_table.specs.declared.table.Part.{Part}
 use Rattle.wq_table.specs.SlotSteps.{AllTold}
 use Rattle.wq_table.specs.SlotChairs.{ValueJoined}
 use Rattle.wq_table.proofs.Places.{seeing_seen}
@@ -16,7 +17,7 @@ use Rattle.wq_calls.specs.Pairs.{pair_sender, seats_view}
 use Rattle.wq_values.specs.ValuePairs.{sender_of, value_pair_view, IsValuePair}
 use Rattle.wq_calls.proofs.ValueSeats.{known_is, still_some, owner_learnt}
 use Rattle.wq_calls.proofs.HandedOver.{met_handed}
-use Rattle.wq_calls.proofs.InOneSeat.{owner_acts, sender_sees, sender_acts, joined_more, joins, owner_joins, sender_joins, low_joins}
+use Rattle.wq_calls.proofs.InOneSeat.{sender_is, owner_acts, sender_sees, sender_acts, joined_more, joins, owner_joins, sender_joins, low_joins}
 
 module _ {V : Type 0} (s : OwnerSeat V) (sent : Sent) (pair : AreSeated s sent) where
   one_layout : (part_in 1 s.chair).layout ≡ s.chair.first.part.layout
@@ -114,3 +115,69 @@ module _ {V : Type 0} (o : owner.Inside V) (s : sender.Inside V) (both : ValueSt
 
   pub join_handed : handed_in (owner_of (value_pair_view whole)) ≡ handed_in now
   join_handed = met_handed now (owner_of (value_pair_view whole)) (sym (ap (λ (k : Known). k.number) owner_known)) owner_join_sees owner_join_learnt
+
+-- a pair that becomes two again: the owner, with the first part of the chair and all slots
+module _ {V : Type 0} (s : Inside V) (pair : IsValuePair s) (mine : ValueStanding V)
+    (first : (mine.queue ≡ s.seat.chair.queue) × (mine.first ≡ s.seat.chair.first) × (mine.others ≡ []) × (mine.hand ≡ s.seat.chair.hand)) where
+  mine_is : mine ≡ record s.seat.chair { others = [] }
+  mine_is = λ i. record { queue = first.0 i; first = first.1 i; others = first.2 i; hand = first.3 i }
+
+  pub split_owner : OwnsValues (record { seat = record s.seat { chair = mine } })
+  split_owner = let o = pair.seated.owns in
+      subst (λ (it : ValueStanding V). OwnsValues (record { seat = record s.seat { chair = it } })) (sym mine_is) record {
+        owns = record {
+          queue = record {
+            layout_is = o.queue.layout_is;
+            number_is = o.queue.number_is;
+            stands = o.queue.stands;
+            has_row = record { stage_is = o.queue.has_row.stage_is; row_is = o.queue.has_row.row_is };
+            running_is = o.queue.running_is;
+            phase_is = o.queue.phase_is;
+            counts_are = o.queue.counts_are;
+          };
+          slots = record { some = o.slots.some; none = o.slots.none };
+        };
+        alone = refl;
+        slots = pair.slots;
+        known = pair.known;
+      }
+
+  pub split_owner_is : (now : KnownValuePair V) → value_pair_view s ≡ now → owner_with (record s.seat { chair = mine }) ≡ owner_of now
+  split_owner_is now view = ap (λ (it : ValueStanding V). owner_with (record s.seat { chair = it })) mine_is ∙ ap owner_of view
+
+-- and the sender, with the other part
+module _ {V : Type 0} (s : Inside V) (pair : IsValuePair s) (theirs : ValueStanding V)
+    (second : (theirs.queue ≡ s.seat.chair.queue) × (theirs.first ∷ [] ≡ s.seat.chair.others) × (theirs.others ≡ []) × (theirs.hand ≡ [])) where
+  their_part : theirs.first.part ≡ part_in 1 s.seat.chair
+  their_part = ap (λ (ts : ValueView V). part_in 1 (record s.seat.chair { others = ts })) second.1
+
+  their_sending : sending_in 0 theirs s.sent ≡ sending_in 1 s.seat.chair s.sent
+  their_sending = λ i. record {
+    chair = record { queue = second.0 i; part = their_part i; others = [] };
+    layout = s.sent.layout;
+    number = s.sent.number;
+    counts = s.sent.counts;
+  }
+
+  their_brought : theirs.first.brought ≡ s.seat.chair.first.brought
+  their_brought = (subst (AllTold s.seat.chair.first.brought) (sym second.1) pair.told).0
+
+  their_known : AreKnown theirs
+  their_known = let layout = ap (λ (p : Part). p.layout) their_part ∙ one_layout s.seat s.sent pair.seated in
+      let seen = ap (λ (p : Part). p.seen) their_part ∙ pair.seated.one_seen in
+      subst (λ (z : Layout × List Event × List (Option V)). AreBrought z.0.items (accepted z.1) z.2)
+      (λ i. (sym layout i, sym seen i, sym their_brought i)) pair.known
+
+  pub split_sender : SendsValues (record { chair = theirs; sent = s.sent })
+  split_sender = record {
+    sends = subst Sends (sym their_sending) pair.seated.sends;
+    alone = second.2;
+    slots = subst (λ (q : TableId). 0 < q.slots) (sym second.0) pair.slots;
+    empty = second.3;
+    known = their_known;
+  }
+
+  pub split_sender_is : (now : KnownValuePair V) → value_pair_view s ≡ now → sender_with 0 theirs s.sent ≡ sender_of now
+  split_sender_is now view = let known = ap sender_view their_sending ∙ sender_is s.seat s.sent pair.seated in
+      let is : sender_with 0 theirs s.sent ≡ sender_of (value_pair_view s) = λ i. record { known = known i; brought = their_brought i } in
+      is ∙ ap sender_of view

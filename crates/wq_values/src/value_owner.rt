@@ -66,7 +66,7 @@ impl<V: Drop> ValueOwner<V> {
     }
 
     /// Takes all that stands on the list, and answers how many that is (`llist_del_all`). An owner that serves by a loop of its
-    /// own takes more at a time where some time passes after a short take: `wq_worker` has the bounds that its `serve` uses.
+    /// own takes more at a time where some time passes after a short take, as `serve` of `wq_worker` lets `Spins` pass.
     pub fn take(&mut self) -> u32
         requires open { ¬ IsShut self.old.known.seen }
         requires empty { batch self.old.known.seen ≡ [] }

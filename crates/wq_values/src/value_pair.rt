@@ -70,7 +70,7 @@ impl<V: Drop> ValuePair<V> {
         }
     }
 
-    /// How long its sender gives way after a lost exchange.
+    /// How long its sender gives way after a lost exchange, between the tries of one call: a call of one try gives no way.
     pub fn set_spins(&mut self, spins: Spins)
         ensures same { self.new ≡ self.old }
     {

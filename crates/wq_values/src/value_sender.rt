@@ -89,7 +89,7 @@ impl<V: Drop> ValueSender<V> {
         self.sent.counts
     }
 
-    /// How long it gives way after a lost exchange.
+    /// How long it gives way after a lost exchange, between the tries of one call: a call of one try gives no way.
     pub fn set_spins(&mut self, spins: Spins)
         ensures same { self.new ≡ self.old }
     {

@@ -1,18 +1,33 @@
-use Rattle.wq_values.proofs.Alone.{values_alone}
-use Rattle.wq_calls.proofs.ValueSeats.{owner_learnt}
+use Rattle.wq_values.proofs.Common.{◌≡◌, ◌+◌, [], ◌∷◌, length, ap, sym, refl, ◌∙◌, subst, IsPrefix, Close, accepted, begun, ended, own, IsRunning}
+use Rattle.wq_values.proofs.Common.{IsClosed, Known, Sees, batch, owning, owner_view}
+use Rattle.wq_calls.proofs.ValueSeats.{known_is, owner_learnt}
 use Rattle.wq_calls.proofs.HandedOver.{owner_stays}
-use Rattle.wq_words.specs.declared.event.Event.TheVariants as event
-use Rattle.std.specs.Prelude.{[], ◌∷◌}
-use mathlib.Core.Path.{refl}
+use Rattle.wq_values.proofs.Alone.{values_alone}
 use Rattle.wq_values.proofs.value_owner.ValueOwner.close.Goals as goal
 
 pub invariant_of-self : goal.invariant_of-self
-invariant_of-self g c = values_alone c.self.inside (record { seat = c.close.new.self }) c.close.ensures.learns c.self.invariant c.close.ensures.owns
+invariant_of-self g c = let e = c.close.ensures in values_alone c.self.inside (record { seat = c.close.new.self }) e.learns c.self.invariant e.owns
 
-pub returns-clause-learnt : goal.returns-clause-learnt
-returns-clause-learnt g c = owner_learnt 0 c.self.inside.seat c.close.new.self c.close.ensures.learns c.self.invariant.known c.args.self.now c.self.view_is
+pub close-requires : goal.close-requires
+close-requires g c = let i = c.self.invariant in let was = known_is c.self.inside.seat c.args.self.now c.self.view_is in record {
+  owns = i.owns;
+  unclosed = subst (λ (k : Known). ¬ IsClosed k.seen) (sym was) c.requires.unclosed;
+}
 
-pub returns-clause-handed : goal.returns-clause-handed
-returns-clause-handed g c = let e = c.close.ensures in
-    owner_stays c.self.inside.seat c.close.new.self e.learns c.self.invariant.owns c.self.invariant.known
-    c.args.self.now c.self.view_is (event.Close ∷ []) 0 refl e.seen
+pub returns : goal.returns
+returns g c = let s = c.self.inside.seat in let t = c.close.new.self in let e = c.close.ensures in let i = c.self.invariant in
+    let now = c.args.self.now in let view = c.self.view_is in let was = known_is s now view in
+    let new = owner_view (owning t) in let n = c.close.result in record {
+      seen = subst (λ (k : Known). Sees (Close ∷ []) 0 k new) was e.seen;
+      unqueued = e.unqueued ∙ ap (λ (k : Known). accepted (own k.number k.seen)) was;
+      executions = subst (λ (k : Known). (begun new.seen ≡ begun k.seen) × (ended new.seen ≡ ended k.seen)) was e.executions;
+      learnt = owner_learnt 0 s t e.learns i.known now view;
+      handed = owner_stays s t e.learns i.owns i.known now view (Close ∷ []) 0 refl e.seen;
+      takes = e.takes;
+      behind = subst (λ (k : Known). IsPrefix (batch k.seen) (batch new.seen)) was e.behind;
+      count = subst (λ (k : Known). length (batch new.seen) ≡ length (batch k.seen) + n) was e.count;
+      closed = e.closed;
+      shut = e.shut;
+      idle = subst (λ (k : Known). ¬ IsRunning k.seen → ¬ IsRunning new.seen) was e.idle;
+      runs = subst (λ (k : Known). IsRunning k.seen → IsRunning new.seen) was e.runs;
+    }

@@ -1,4 +1,6 @@
-use Rattle.wq_values.proofs.Common.{ap, owner_of}
+use Rattle.wq_values.proofs.Common.{◌≡◌, ◌≢◌, [], ◌∷◌, ◌++◌, Some, length, slice_get, ap, sym, ◌∙◌, subst, Begin, accepted, begun, ended, own}
+use Rattle.wq_values.proofs.Common.{IsRunning, IsClosed, IsShut, Carries, Known, Sees, batch, next_of, owning, owner_view, owner_of}
+use Rattle.wq_calls.proofs.ValueSeats.{known_is}
 use Rattle.wq_calls.proofs.HandedOver.{owner_hands}
 use Rattle.wq_values.proofs.ValuePaired.{values_act, others_see, acts_learnt}
 use Rattle.wq_values.proofs.value_pair.ValuePair.begin.Goals as goal
@@ -6,15 +8,32 @@ use Rattle.wq_values.proofs.value_pair.ValuePair.begin.Goals as goal
 pub invariant_of-self : goal.invariant_of-self
 invariant_of-self g c = let e = c.begin_value.ensures in values_act c.self.inside c.self.invariant c.begin_value.new.self e.owns e.seen.same e.learns
 
-pub returns-clause-others : goal.returns-clause-others
-returns-clause-others g c = let e = c.begin_value.ensures in
-    others_see c.self.inside c.self.invariant c.begin_value.new.self e.owns e.seen.same e.learns c.args.self.now c.self.view_is
+pub begin_value-requires : goal.begin_value-requires
+begin_value-requires g c = let i = c.self.invariant in let was = known_is c.self.inside.seat (owner_of c.args.self.now) (ap owner_of c.self.view_is) in record {
+  owns = i.seated.owns;
+  slots = i.slots;
+  waits = subst (λ (k : Known). batch k.seen ≢ []) (sym was) c.requires.waits;
+  idle = subst (λ (k : Known). ¬ IsRunning k.seen) (sym was) c.requires.idle;
+}
 
-pub returns-clause-learnt : goal.returns-clause-learnt
-returns-clause-learnt g c = let e = c.begin_value.ensures in
-    acts_learnt c.self.inside c.self.invariant c.begin_value.new.self e.owns e.seen.same e.learns c.args.self.now c.self.view_is
-
-pub returns-clause-handed : goal.returns-clause-handed
-returns-clause-handed g c = let e = c.begin_value.ensures in let i = c.self.invariant in
-    owner_hands c.self.inside.seat c.begin_value.new.self e.learns i.seated.owns i.known (owner_of c.args.self.now) (ap owner_of c.self.view_is)
-    _ _ e.seen e.value
+pub returns : goal.returns
+returns g c = let s = c.self.inside in let t = c.begin_value.new.self in let e = c.begin_value.ensures in let i = c.self.invariant in
+    let now = c.args.self.now in let view = c.self.view_is in let was = known_is s.seat (owner_of now) (ap owner_of view) in
+    let new = owner_view (owning t) in let n = c.begin_value.result.0 in let y = c.begin_value.result.1 in record {
+      next = subst (λ (k : Known). next_of k.seen ≡ Some n) was e.next;
+      seen = subst (λ (k : Known). Sees (Begin n ∷ []) 0 k new) was e.seen;
+      unqueued = e.unqueued ∙ ap (λ (k : Known). accepted (own k.number k.seen)) was;
+      executions = subst (λ (k : Known). (begun new.seen ≡ begun k.seen ++ n ∷ []) × (ended new.seen ≡ ended k.seen)) was e.executions;
+      learnt = acts_learnt s i t e.owns e.seen.same e.learns now view;
+      handed = owner_hands s.seat t e.learns i.seated.owns i.known (owner_of now) (ap owner_of view) _ _ e.seen e.value;
+      batch = subst (λ (k : Known). batch k.seen ≡ n ∷ batch new.seen) was e.batch;
+      value = subst (λ (k : Known). slice_get t.chair.first.brought (length (begun k.seen)) ≡ Some y) was e.value;
+      kind = subst (λ (k : Known). Carries k.layout.items n y) was e.kind;
+      runs = e.runs;
+      running = e.running;
+      shut = subst (λ (k : Known). IsShut k.seen → IsShut new.seen) was e.shut;
+      closed = subst (λ (k : Known). IsClosed k.seen → IsClosed new.seen) was e.closed;
+      «open» = subst (λ (k : Known). ¬ IsShut k.seen → ¬ IsShut new.seen) was e.«open»;
+      unclosed = subst (λ (k : Known). ¬ IsClosed k.seen → ¬ IsClosed new.seen) was e.unclosed;
+      others = others_see s i t e.owns e.seen.same e.learns now view;
+    }

@@ -1,4 +1,7 @@
-use Rattle.wq_values.proofs.Common.{ap, owner_of}
+use Rattle.wq_values.proofs.Common.{◌≡◌, ◌<◌, ◌++◌, ap, sym, ◌∙◌, subst, begun, ended, running, IsRunning, IsClosed, IsShut, Known, answer_of, batch}
+use Rattle.wq_values.proofs.Common.{queued_number, owning, owner_view, owner_of}
+use Rattle.wq_calls.specs.Answers.{Chains}
+use Rattle.wq_calls.proofs.ValueSeats.{known_is}
 use Rattle.wq_calls.proofs.HandedOver.{owner_chains}
 use Rattle.wq_values.proofs.ValuePaired.{values_act, others_see, acts_learnt}
 use Rattle.wq_values.proofs.value_pair.ValuePair.chain_value.Goals as goal
@@ -6,15 +9,29 @@ use Rattle.wq_values.proofs.value_pair.ValuePair.chain_value.Goals as goal
 pub invariant_of-self : goal.invariant_of-self
 invariant_of-self g c = let e = c.chain_value.ensures in values_act c.self.inside c.self.invariant c.chain_value.new.self e.owns e.same e.learns
 
-pub returns-clause-others : goal.returns-clause-others
-returns-clause-others g c = let e = c.chain_value.ensures in
-    others_see c.self.inside c.self.invariant c.chain_value.new.self e.owns e.same e.learns c.args.self.now c.self.view_is
+pub chain_value-requires : goal.chain_value-requires
+chain_value-requires g c = let i = c.self.invariant in let was = known_is c.self.inside.seat (owner_of c.args.self.now) (ap owner_of c.self.view_is) in record {
+  owns = i.seated.owns;
+  slots = i.slots;
+  item = subst (λ (k : Known). c.args.item < k.layout.items) (sym was) c.requires.item;
+  shut = subst (λ (k : Known). IsShut k.seen) (sym was) c.requires.shut;
+  runs = subst (λ (k : Known). IsRunning k.seen) (sym was) c.requires.runs;
+}
 
-pub returns-clause-learnt : goal.returns-clause-learnt
-returns-clause-learnt g c = let e = c.chain_value.ensures in
-    acts_learnt c.self.inside c.self.invariant c.chain_value.new.self e.owns e.same e.learns c.args.self.now c.self.view_is
-
-pub returns-clause-handed : goal.returns-clause-handed
-returns-clause-handed g c = let e = c.chain_value.ensures in let i = c.self.invariant in
-    owner_chains c.self.inside.seat c.chain_value.new.self e.learns i.seated.owns i.known (owner_of c.args.self.now) (ap owner_of c.self.view_is)
-    c.args.item _ e.answer
+pub returns : goal.returns
+returns g c = let s = c.self.inside in let t = c.chain_value.new.self in let e = c.chain_value.ensures in let i = c.self.invariant in
+    let now = c.args.self.now in let view = c.self.view_is in let was = known_is s.seat (owner_of now) (ap owner_of view) in
+    let new = owner_view (owning t) in let r = c.chain_value.result in record {
+      answer = subst (λ (k : Known). Chains c.args.item (answer_of r) k new) was e.answer;
+      value = e.value;
+      learnt = acts_learnt s i t e.owns e.same e.learns now view;
+      handed = owner_chains s.seat t e.learns i.seated.owns i.known (owner_of now) (ap owner_of view) c.args.item _ e.answer;
+      batch = e.batch ∙ ap (λ (k : Known). batch k.seen ++ queued_number c.args.item (answer_of r)) was;
+      executions = subst (λ (k : Known). (begun new.seen ≡ begun k.seen) × (ended new.seen ≡ ended k.seen)) was e.executions;
+      running = e.running ∙ ap (λ (k : Known). running k.seen) was;
+      shut = e.shut;
+      closed = subst (λ (k : Known). IsClosed k.seen → IsClosed new.seen) was e.closed;
+      unclosed = subst (λ (k : Known). ¬ IsClosed k.seen → ¬ IsClosed new.seen) was e.unclosed;
+      runs = e.runs;
+      others = others_see s i t e.owns e.same e.learns now view;
+    }

@@ -1,5 +1,6 @@
-use Rattle.wq_values.proofs.Common.{[], ◌∷◌, ap, sym, refl, ◌∙◌, subst, End, running, IsRunning, runs_some, Sees, owning, owner_view, pair_owner}
-use Rattle.wq_values.proofs.Common.{KnownValuePair, owner_of}
+use Rattle.wq_values.proofs.Common.{◌≡◌, ℕ, [], ◌∷◌, ◌++◌, Some, ap, sym, refl, ◌∙◌, subst, End, accepted, begun, ended, own, running, IsRunning}
+use Rattle.wq_values.proofs.Common.{runs_some, IsClosed, IsShut, Known, Sees, batch, owning, owner_view, owner_of}
+use Rattle.wq_calls.proofs.ValueSeats.{known_is}
 use Rattle.wq_calls.proofs.HandedOver.{owner_stays}
 use Rattle.wq_values.proofs.ValuePaired.{values_act, others_see, acts_learnt}
 use Rattle.wq_values.proofs.value_pair.ValuePair.end.Goals as goal
@@ -7,22 +8,29 @@ use Rattle.wq_values.proofs.value_pair.ValuePair.end.Goals as goal
 pub invariant_of-self : goal.invariant_of-self
 invariant_of-self g c = let e = c.end.ensures in values_act c.self.inside c.self.invariant c.end.new.self e.owns e.same e.learns
 
-pub returns-clause-others : goal.returns-clause-others
-returns-clause-others g c = let e = c.end.ensures in
-    others_see c.self.inside c.self.invariant c.end.new.self e.owns e.same e.learns c.args.self.now c.self.view_is
+pub end-requires : goal.end-requires
+end-requires g c = let i = c.self.invariant in let was = known_is c.self.inside.seat (owner_of c.args.self.now) (ap owner_of c.self.view_is) in record {
+  owns = i.seated.owns;
+  runs = subst (λ (k : Known). IsRunning k.seen) (sym was) c.requires.runs;
+}
 
-pub returns-clause-learnt : goal.returns-clause-learnt
-returns-clause-learnt g c = let e = c.end.ensures in
-    acts_learnt c.self.inside c.self.invariant c.end.new.self e.owns e.same e.learns c.args.self.now c.self.view_is
-
-pub returns-clause-handed : goal.returns-clause-handed
-returns-clause-handed g c = let e = c.end.ensures in let i = c.self.invariant in
-    let some = runs_some (owner_view (owning c.self.inside.seat)).seen
-    (subst (λ (v : KnownValuePair g.row.V.Denot). IsRunning v.known.seen) (sym c.self.view_is) c.requires.runs) in
-    owner_stays c.self.inside.seat c.end.new.self e.learns i.seated.owns i.known (owner_of c.args.self.now) (ap owner_of c.self.view_is)
-    (End some.0 ∷ []) 0 refl (e.seen some.0 some.1)
-
-pub returns-clause-seen : goal.returns-clause-seen
-returns-clause-seen g c k is =
-    subst (λ (v : KnownValuePair g.row.V.Denot). Sees (End k ∷ []) 0 (pair_owner v.known) (owner_view (owning c.end.new.self))) c.self.view_is
-    (c.end.ensures.seen k (ap (λ (v : KnownValuePair g.row.V.Denot). running v.known.seen) c.self.view_is ∙ is))
+pub returns : goal.returns
+returns g c = let s = c.self.inside in let t = c.end.new.self in let e = c.end.ensures in let i = c.self.invariant in
+    let now = c.args.self.now in let view = c.self.view_is in let was = known_is s.seat (owner_of now) (ap owner_of view) in
+    let new = owner_view (owning t) in
+    let some = runs_some (owner_view (owning s.seat)).seen
+    (subst (λ (k : Known). IsRunning k.seen) (sym was) c.requires.runs) in record {
+      seen = subst (λ (o : Known). (k : ℕ) → running o.seen ≡ Some k → Sees (End k ∷ []) 0 o new) was e.seen;
+      unqueued = e.unqueued ∙ ap (λ (k : Known). accepted (own k.number k.seen)) was;
+      executions = subst (λ (o : Known). (begun new.seen ≡ begun o.seen)
+          × ((k : ℕ) → running o.seen ≡ Some k → ended new.seen ≡ ended o.seen ++ k ∷ [])) was e.executions;
+      learnt = acts_learnt s i t e.owns e.same e.learns now view;
+      handed = owner_stays s.seat t e.learns i.seated.owns i.known (owner_of now) (ap owner_of view) (End some.0 ∷ []) 0 refl (e.seen some.0 some.1);
+      batch = e.batch ∙ ap (λ (k : Known). batch k.seen) was;
+      idle = e.idle;
+      shut = subst (λ (k : Known). IsShut k.seen → IsShut new.seen) was e.shut;
+      closed = subst (λ (k : Known). IsClosed k.seen → IsClosed new.seen) was e.closed;
+      «open» = subst (λ (k : Known). ¬ IsShut k.seen → ¬ IsShut new.seen) was e.«open»;
+      unclosed = subst (λ (k : Known). ¬ IsClosed k.seen → ¬ IsClosed new.seen) was e.unclosed;
+      others = others_see s i t e.owns e.same e.learns now view;
+    }

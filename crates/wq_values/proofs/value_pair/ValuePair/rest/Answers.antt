@@ -1,4 +1,6 @@
-use Rattle.wq_values.proofs.Common.{ap, owner_of}
+use Rattle.wq_values.proofs.Common.{◌≡◌, [], ap, sym, ◌∙◌, subst, accepted, begun, ended, own, IsRunning, IsShut, Known, Rests, batch, owning}
+use Rattle.wq_values.proofs.Common.{owner_view, owner_of}
+use Rattle.wq_calls.proofs.ValueSeats.{known_is}
 use Rattle.wq_calls.proofs.HandedOver.{owner_rests}
 use Rattle.wq_values.proofs.ValuePaired.{values_act, others_see, acts_learnt}
 use Rattle.wq_values.proofs.value_pair.ValuePair.rest.Goals as goal
@@ -6,15 +8,28 @@ use Rattle.wq_values.proofs.value_pair.ValuePair.rest.Goals as goal
 pub invariant_of-self : goal.invariant_of-self
 invariant_of-self g c = let e = c.rest.ensures in values_act c.self.inside c.self.invariant c.rest.new.self e.owns e.same e.learns
 
-pub returns-clause-others : goal.returns-clause-others
-returns-clause-others g c = let e = c.rest.ensures in
-    others_see c.self.inside c.self.invariant c.rest.new.self e.owns e.same e.learns c.args.self.now c.self.view_is
+pub rest-requires : goal.rest-requires
+rest-requires g c = let i = c.self.invariant in let was = known_is c.self.inside.seat (owner_of c.args.self.now) (ap owner_of c.self.view_is) in record {
+  owns = i.seated.owns;
+  «open» = subst (λ (k : Known). ¬ IsShut k.seen) (sym was) c.requires.«open»;
+  empty = subst (λ (k : Known). batch k.seen ≡ []) (sym was) c.requires.empty;
+  idle = subst (λ (k : Known). ¬ IsRunning k.seen) (sym was) c.requires.idle;
+}
 
-pub returns-clause-learnt : goal.returns-clause-learnt
-returns-clause-learnt g c = let e = c.rest.ensures in
-    acts_learnt c.self.inside c.self.invariant c.rest.new.self e.owns e.same e.learns c.args.self.now c.self.view_is
-
-pub returns-clause-handed : goal.returns-clause-handed
-returns-clause-handed g c = let e = c.rest.ensures in let i = c.self.invariant in
-    owner_rests c.self.inside.seat c.rest.new.self e.learns i.seated.owns i.known (owner_of c.args.self.now) (ap owner_of c.self.view_is)
-    c.rest.result e.seen
+pub returns : goal.returns
+returns g c = let s = c.self.inside in let t = c.rest.new.self in let e = c.rest.ensures in let i = c.self.invariant in
+    let now = c.args.self.now in let view = c.self.view_is in let was = known_is s.seat (owner_of now) (ap owner_of view) in
+    let new = owner_view (owning t) in let r = c.rest.result in record {
+      seen = subst (λ (k : Known). Rests r k new) was e.seen;
+      unqueued = e.unqueued ∙ ap (λ (k : Known). accepted (own k.number k.seen)) was;
+      executions = subst (λ (k : Known). (begun new.seen ≡ begun k.seen) × (ended new.seen ≡ ended k.seen)) was e.executions;
+      learnt = acts_learnt s i t e.owns e.same e.learns now view;
+      handed = owner_rests s.seat t e.learns i.seated.owns i.known (owner_of now) (ap owner_of view) r e.seen;
+      rested = e.rested;
+      refused = e.refused;
+      «open» = e.«open»;
+      unclosed = e.unclosed;
+      empty = e.empty;
+      idle = e.idle;
+      others = others_see s i t e.owns e.same e.learns now view;
+    }

@@ -1,5 +1,6 @@
-use Rattle.wq_values.proofs.Common.{[], ◌∷◌, ap, refl, owner_of}
-use Rattle.wq_words.specs.declared.event.Event.TheVariants as event
+use Rattle.wq_values.proofs.Common.{◌≡◌, [], ◌∷◌, ap, sym, refl, ◌∙◌, subst, Take, accepted, begun, ended, own, IsRunning, IsShut, Known, Sees, batch}
+use Rattle.wq_values.proofs.Common.{owning, owner_view, owner_of}
+use Rattle.wq_calls.proofs.ValueSeats.{known_is}
 use Rattle.wq_calls.proofs.HandedOver.{owner_stays}
 use Rattle.wq_values.proofs.ValuePaired.{values_act, others_see, acts_learnt}
 use Rattle.wq_values.proofs.value_pair.ValuePair.take.Goals as goal
@@ -7,15 +8,27 @@ use Rattle.wq_values.proofs.value_pair.ValuePair.take.Goals as goal
 pub invariant_of-self : goal.invariant_of-self
 invariant_of-self g c = let e = c.take.ensures in values_act c.self.inside c.self.invariant c.take.new.self e.owns e.seen.same e.learns
 
-pub returns-clause-others : goal.returns-clause-others
-returns-clause-others g c = let e = c.take.ensures in
-    others_see c.self.inside c.self.invariant c.take.new.self e.owns e.seen.same e.learns c.args.self.now c.self.view_is
+pub take-requires : goal.take-requires
+take-requires g c = let i = c.self.invariant in let was = known_is c.self.inside.seat (owner_of c.args.self.now) (ap owner_of c.self.view_is) in record {
+  owns = i.seated.owns;
+  «open» = subst (λ (k : Known). ¬ IsShut k.seen) (sym was) c.requires.«open»;
+  empty = subst (λ (k : Known). batch k.seen ≡ []) (sym was) c.requires.empty;
+}
 
-pub returns-clause-learnt : goal.returns-clause-learnt
-returns-clause-learnt g c = let e = c.take.ensures in
-    acts_learnt c.self.inside c.self.invariant c.take.new.self e.owns e.seen.same e.learns c.args.self.now c.self.view_is
-
-pub returns-clause-handed : goal.returns-clause-handed
-returns-clause-handed g c = let e = c.take.ensures in let i = c.self.invariant in
-    owner_stays c.self.inside.seat c.take.new.self e.learns i.seated.owns i.known (owner_of c.args.self.now) (ap owner_of c.self.view_is)
-    (event.Take ∷ []) 0 refl e.seen
+pub returns : goal.returns
+returns g c = let s = c.self.inside in let t = c.take.new.self in let e = c.take.ensures in let i = c.self.invariant in
+    let now = c.args.self.now in let view = c.self.view_is in let was = known_is s.seat (owner_of now) (ap owner_of view) in
+    let new = owner_view (owning t) in record {
+      seen = subst (λ (k : Known). Sees (Take ∷ []) 0 k new) was e.seen;
+      unqueued = e.unqueued ∙ ap (λ (k : Known). accepted (own k.number k.seen)) was;
+      executions = subst (λ (k : Known). (begun new.seen ≡ begun k.seen) × (ended new.seen ≡ ended k.seen)) was e.executions;
+      learnt = acts_learnt s i t e.owns e.seen.same e.learns now view;
+      handed = owner_stays s.seat t e.learns i.seated.owns i.known (owner_of now) (ap owner_of view) (Take ∷ []) 0 refl e.seen;
+      takes = e.takes;
+      count = e.count;
+      «open» = e.«open»;
+      unclosed = e.unclosed;
+      idle = subst (λ (k : Known). ¬ IsRunning k.seen → ¬ IsRunning new.seen) was e.idle;
+      runs = subst (λ (k : Known). IsRunning k.seen → IsRunning new.seen) was e.runs;
+      others = others_see s i t e.owns e.seen.same e.learns now view;
+    }

@@ -1,3 +1,6 @@
+use Rattle.wq_values.proofs.Common.{◌<◌, ap, sym, subst, Layout, Known, KnownWith, IsContended, answer_of, sender_view, sending_in}
+use Rattle.wq_calls.specs.Answers.{Answers}
+use Rattle.wq_calls.proofs.Tried.{answers_same}
 use Rattle.wq_values.proofs.ValueSends.{sends_values, sender_learnt}
 use Rattle.wq_values.proofs.value_sender.ValueSender.queue_value.Goals as goal
 
@@ -5,6 +8,21 @@ pub invariant_of-self : goal.invariant_of-self
 invariant_of-self g c = let e = c.queue_value.ensures in
     sends_values c.self.inside c.self.invariant c.queue_value.new.chair c.queue_value.new.sent e.learns e.sends e.hand
 
-pub returns-clause-learnt : goal.returns-clause-learnt
-returns-clause-learnt g c = let e = c.queue_value.ensures in
-    sender_learnt c.self.inside c.self.invariant c.queue_value.new.chair c.queue_value.new.sent e.learns c.args.self.now c.self.view_is
+pub queue_value-requires : goal.queue_value-requires
+queue_value-requires g c = record {
+  sends = c.self.invariant.sends;
+  item = subst (λ (l : Layout). c.args.item < l.items) (sym (ap (λ (k : KnownWith g.row.V.Denot). k.known.layout) c.self.view_is)) c.requires.item;
+  slots = c.self.invariant.slots;
+}
+
+pub returns : goal.returns
+returns g c = let q = c.queue_value in let e = q.ensures in let r = q.result in
+    let was = ap (λ (k : KnownWith g.row.V.Denot). k.known) c.self.view_is in
+    let answer = subst (λ (k : Known). Answers c.args.item c.args.tries (answer_of r) k (sender_view (sending_in 0 q.new.chair q.new.sent)))
+    was e.answer in record {
+      answer = answer;
+      value = e.value;
+      learnt = sender_learnt c.self.inside c.self.invariant q.new.chair q.new.sent e.learns c.args.self.now c.self.view_is;
+      contended = λ is. subst (λ (k : Known). IsContended k.number c.args.item c.args.tries q.new.chair.first.part.seen) was (e.contended is);
+      same = answers_same _ _ (answer_of r) _ _ answer;
+    }
