@@ -203,7 +203,8 @@ fn begin_next(owner: &mut Owner) -> Result<u32, SeatError>
     if owner.next().is_none() {
         return Err(SeatError::NoneWaits);
     }
-    Ok(owner.begin())
+    let number = owner.begin();
+    Ok(number)
 }
 
 /// Begins the oldest number that was taken, and answers it. Its PENDING bit is clear before that, so that it can be queued

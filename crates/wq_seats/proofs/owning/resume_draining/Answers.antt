@@ -1,0 +1,33 @@
+use Rattle.std.proofs.Common.{sym, refl, ◌∙◌}
+use Rattle.wq_seats.proofs.Told.{waits_told, empty_told, runs_told, idle_told}
+use Rattle.wq_seats.proofs.owning.resume_draining.Goals as goal
+
+pub returns-then-is_some : goal.returns-then-is_some
+returns-then-is_some c = (
+  c.requires.draining,
+  waits_told c.args.owner.now.seen c.next.result c.next.ensures.first (sym c.is_some.ensures ∙ c.if-is_some.true),
+  refl,
+)
+
+pub returns-then-is_some-2 : goal.returns-then-is_some-2
+returns-then-is_some-2 c = let h = c.args.owner.now.seen in (
+  c.requires.draining,
+  empty_told h c.next.result c.next.ensures.first (sym c.is_some.ensures ∙ c.if-is_some.false),
+  runs_told h c.running.result c.running.ensures.runs (sym c.is_some-2.ensures ∙ c.if-is_some-2.true),
+  refl,
+)
+
+pub resume_now-requires : goal.resume_now-requires
+resume_now-requires c = let h = c.args.owner.now.seen in record {
+  draining = c.requires.draining;
+  empty = empty_told h c.next.result c.next.ensures.first (sym c.is_some.ensures ∙ c.if-is_some.false);
+  idle = idle_told h c.running.result c.running.ensures.runs (sym c.is_some-2.ensures ∙ c.if-is_some-2.false);
+}
+
+pub returns : goal.returns
+returns c = let h = c.args.owner.now.seen in (
+  c.requires.draining,
+  empty_told h c.next.result c.next.ensures.first (sym c.is_some.ensures ∙ c.if-is_some.false),
+  idle_told h c.running.result c.running.ensures.runs (sym c.is_some-2.ensures ∙ c.if-is_some-2.false),
+  c.resume_now.ensures,
+)
