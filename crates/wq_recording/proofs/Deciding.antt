@@ -6,7 +6,8 @@ use Rattle.wq_text.specs.declared.fault.Kind.TheVariants as kind
 use Rattle.wq_recording.specs.Verdict.{deciding_line, IsTooLongAt}
 use Rattle.std.proofs.lemmas.List.{length-drop, take-append-drop, get_or-append-add}
 use Rattle.std.proofs.Math.Seq.{take-append_seam}
-use Rattle.wq_recording.proofs.Reading.{long_is, last_long, too_long}
+use Rattle.wq_recording.proofs.LastLine.{last_long}
+use Rattle.wq_recording.proofs.Reading.{long_is, too_long}
 
 same_some : {B : Type 0} {b c : B} → Some b ≡ Some c → b ≡ c
 same_some e = cc

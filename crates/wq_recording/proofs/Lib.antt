@@ -4,10 +4,11 @@ pub mod Entries
 pub mod Writing
 pub mod Stages
 pub mod LineParts
+pub mod Telling
+pub mod LastLine
 pub mod Reading
 pub mod ReadThrough
 pub mod Saying
-pub mod Telling
 pub mod LeftNumbers
 pub mod FirstLine
 pub mod Places

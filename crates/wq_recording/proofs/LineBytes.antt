@@ -62,11 +62,8 @@ module _ (old bytes : List ℕ) (n : ℕ) (within : n ≤ length bytes) where
       differ : false ≡ true → ⊥
       differ e = cc
 
-  pub part_room : length old ≤ 4097 → n ≤ 4097 - length old → length (old ++ take n bytes) ≤ 4097
-  part_room room fits = omega (arith, longer, room, fits)
-
-  pub part_stops : All (λ x. x ≢ 10) old → All (λ x. x ≢ 10) (take (n - 1) bytes) → StopsAt (old ++ take n bytes) 10
-  part_stops none before = elim (cases_lt 0 n) [
+  stops : All (λ x. x ≢ 10) old → All (λ x. x ≢ 10) (take (n - 1) bytes) → StopsAt (old ++ take n bytes) 10
+  stops none before = elim (cases_lt 0 n) [
     | inl some ↦
         let P : List ℕ → Type 0 = λ l. All (λ x. x ≢ 10) l in
         let last : length (old ++ take n bytes) - 1 ≡ length old + (n - 1) = omega (arith, longer, some) in
@@ -81,23 +78,44 @@ module _ (old bytes : List ℕ) (n : ℕ) (within : n ≤ length bytes) where
         All-take (λ x. x ≢ 10) (length (old ++ take n bytes) - 1) (old ++ take n bytes) (subst P (sym whole) none)
   ]
 
-  pub part_appends : StartsWith (old ++ take n bytes) old
-  part_appends = take-append_seam old (take n bytes)
-
-  pub part_bytes : (known left : Option (List ℕ)) → Consumes known left (take n bytes) → Consumes known left (drop (length old) (old ++ take n bytes))
-  part_bytes known left moved = subst (Consumes known left) (sym (drop-append_seam old (take n bytes))) moved
-
-  pub part_read : (known left : Option (List ℕ)) (ends long : Bool) → length old ≤ 4097 → All (λ x. x ≢ 10) old → All (λ x. x ≢ 10) (take (n - 1) bytes)
+  read : (known left : Option (List ℕ)) (ends long : Bool) → length old ≤ 4097 → All (λ x. x ≢ 10) old → All (λ x. x ≢ 10) (take (n - 1) bytes)
       → IsTrue ends ↔ IsEmptyOrEndsWith (take n bytes) 10 → long ≡ nat_lt 4096 (length (old ++ take n bytes))
       → (n < length bytes → n < 4097 - length old → 0 < n) → (length bytes ≡ 0 → OnSome known (IsAtEnd left))
       → EndsOrGoesOn (ends || long) (old ++ take n bytes) known left
-  part_read known left ends long room none before is same full end = elim (cases_lt 0 n) [
+  read known left ends long room none before is same full end = elim (cases_lt 0 n) [
     | inl some ↦ read_some known left none before some ends long is same
     | inr zero ↦ read_none known left ends long (omega arith) room is full end
   ]
 
+  -- and they are the new bytes of the line
+  module _ (new : List ℕ) (same : new ≡ old ++ take n bytes) where
+    pub part_room : length old ≤ 4097 → n ≤ 4097 - length old → length new ≤ 4097
+    part_room room fits = omega (arith, ap length same, longer, room, fits)
+
+    pub part_stops : All (λ x. x ≢ 10) old → All (λ x. x ≢ 10) (take (n - 1) bytes) → StopsAt new 10
+    part_stops none before = subst (λ l. StopsAt l 10) (sym same) (stops none before)
+
+    pub part_appends : StartsWith new old
+    part_appends = subst (λ l. StartsWith l old) (sym same) (take-append_seam old (take n bytes))
+
+    pub part_bytes : (known left : Option (List ℕ)) → Consumes known left (take n bytes) → Consumes known left (appended_bytes old new)
+    part_bytes known left moved =
+        let appended : appended_bytes old new ≡ take n bytes = ap (drop (length old)) same ∙ drop-append_seam old (take n bytes) in
+        subst (Consumes known left) (sym appended) moved
+
+    pub part_read : (known left : Option (List ℕ)) (ends long : Bool) → length old ≤ 4097 → All (λ x. x ≢ 10) old
+        → All (λ x. x ≢ 10) (take (n - 1) bytes) → IsTrue ends ↔ IsEmptyOrEndsWith (take n bytes) 10 → long ≡ nat_lt 4096 (length new)
+        → (n < length bytes → n < 4097 - length old → 0 < n) → (length bytes ≡ 0 → OnSome known (IsAtEnd left))
+        → EndsOrGoesOn (ends || long) new known left
+    part_read known left ends long room none before is over full end =
+        subst (λ l. EndsOrGoesOn (ends || long) l known left) (sym same)
+        (read known left ends long room none before is (over ∙ ap (λ l. nat_lt 4096 (length l)) same) full end)
+
 -- a line to which nothing came
 module _ (line new : List ℕ) (same : new ≡ line) (none : All (λ x. x ≢ 10) line) where
+  pub same_room : length line ≤ 4097 → length new ≤ 4097
+  same_room room = omega (arith, ap length same, room)
+
   pub same_stops : StopsAt new 10
   same_stops = subst (λ l. StopsAt l 10) (sym same) (All-take (λ x. x ≢ 10) (length line - 1) line none)
 

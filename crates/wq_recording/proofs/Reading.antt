@@ -2,8 +2,7 @@
 use Rattle.wq_recording.proofs.Common.{◌≡◌, ◌≢◌, ℕ, ◌+◌, ◌<◌, ◌≤◌, ◌⊎◌, List, [], ◌∷◌, ◌++◌, length, Option, Some, None, IfSome, Result, Ok, Err}
 use Rattle.wq_recording.proofs.Common.{refl, sym, ap, subst, ◌∙◌, inl, inr, arith, flat_map, option_to_list, append_assoc, append-nil, length-append, Layout, Kind}
 use Rattle.wq_recording.proofs.Common.{ScriptError, Stage, Lines, layout_at, parts, Stop, Rules, IsLineAt, IsRefusedText}
-use Rattle.wq_recording.proofs.Common.{HasFaultAt, last_fault, short_line, StopsAmong, HasTold, IsMadeAt, TellsAll}
-use Rattle.std.proofs.Common.{if◌then◌else◌}
+use Rattle.wq_recording.proofs.Common.{HasFaultAt, last_fault, short_line, StopsAmong, HasTold, IsMadeAt, TellsAll, ComesTo}
 use Rattle.std.proofs.Common.{◌==◌}
 use Rattle.std.proofs.lemmas.Bool.{le-leb, lt-leb}
 use Rattle.std.proofs.lemmas.List.Splits.{length-slice_split}
@@ -18,8 +17,11 @@ use Rattle.wq_text.specs.declared.fault.ParseError.TheVariants as parse_errors
 use Rattle.wq_text.specs.declared.fault.Kind.TheVariants as kind
 use Rattle.wq_text.specs.declared.header.Stage.TheVariants as stage
 use Rattle.wq_recording.specs.declared.finding.Finding.{Finding}
+use Rattle.wq_recording.specs.declared.judging.Told.TheVariants.{Stop as ToldStop}
 use Rattle.wq_recording.specs.Lines.{EndsWithLf, IsLineRead}
 use Rattle.wq_recording.specs.VerdictText.{verdict_of, SaysOf, Finds}
+use Rattle.wq_recording.proofs.LastLine.{last_long}
+use Rattle.wq_recording.proofs.Telling.{told_legal}
 use Rattle.wq_recording.proofs.LineParts.{parts_line, parts_bare, parts_front, whole_line, bare_line}
 
 flat_map-append : {X Y : Type 0} (f : X → List Y) (xs ys : List X) → flat_map f (xs ++ ys) ≡ flat_map f xs ++ flat_map f ys
@@ -32,10 +34,6 @@ module _ {A : Type 0} (inner : Lines A) where
 
   pub long_is : (s : Stage) (line : List ℕ) → 4096 < length line → short_line inner s line ≡ Err kind.Size
   long_is s line lt = ap (λ b. need kind.Size b >>= λ _. inner s line) (lt-leb (length line) 4096 lt)
-
-pub last_long : (s : Stage) (line : List ℕ) → 4096 < length line → last_fault s line ≡ Some kind.Size
-last_long s [] lt = absurd (omega (arith, lt))
-last_long s (b ∷ bs) lt = ap (λ t. Some (if t then kind.Cut else kind.Size)) (lt-leb (length (b ∷ bs)) 4096 lt)
 
 pub too_long : {A E : Type 0} (inner : Lines A) (rules : Rules A E) (text : List ℕ) (s : Stage) (part : List ℕ) (more : List (List ℕ)) (k : Kind)
     → 4096 < length part → k ≡ kind.Size → HasFaultAt (short_line inner) rules text s part more k
@@ -159,17 +157,7 @@ module _ {A E C : Type 0} (inner : Lines A) (rules : Rules A E) (layout_of : C �
     module _ (begins : (l : Layout) → rules.IsLegal l []) (legal : (c : C) (h : List E) → after c h → rules.IsLegal (layout_of c) h)
         (made : IsMadeAt layout_of s checker) where
       legal_so_far : (layout : Layout) → layout_at s ≡ Some layout → rules.IsLegal layout (flat_map rules.tells r.asked)
-      legal_so_far layout here = by_checker (flat_map rules.tells r.asked) checker made r.told
-        where
-          same : {l m : Layout} → Some l ≡ Some m → l ≡ m
-          same e = cc
-
-          by_checker : (h : List E) (o : Option C) → IsMadeAt layout_of s o → HasTold after o h → rules.IsLegal layout h
-          by_checker h None made told = let P : List E → Type 0 = λ g. rules.IsLegal layout g in subst P (sym told) (begins layout)
-          by_checker h (Some c) made told =
-              let P : Layout → Type 0 = λ l. rules.IsLegal l h in
-              let is : Some (layout_of c) ≡ Some layout = sym (ap layout_at made) ∙ here in
-              subst P (same is) (legal c h told)
+      legal_so_far layout here = told_legal rules layout_of after begins legal s layout checker (flat_map rules.tells r.asked) here made r.told
 
       refused_part : (part : List ℕ) (more : List (List ℕ)) (e : ScriptError) → parts rest ≡ part ∷ more → e.line ≡ n
           → HasFaultAt (short_line inner) rules text s part more e.kind → IsRefusedText (short_line inner) rules text e
@@ -245,22 +233,26 @@ module _ {A E C : Type 0} (inner : Lines A) (rules : Rules A E) (layout_of : C �
         by_known None r = tt
         by_known (Some text) r = all text r.0 r.1
 
-    pub reads_on : (next : Stage) (one : Option A) (new : Option C) (t line' : List ℕ) (left' : Option (List ℕ)) → line ≡ t ++ 10 ∷ []
-        → inner s t ≡ Ok (next, one) → TellsAll rules after one checker new → Consumes left left' line' → IsLineRead line' left left'
+    pub reads_on : (reached next : Stage) (one : Option A) (new : Option C) (t line' : List ℕ) (left' : Option (List ℕ)) → line ≡ t ++ 10 ∷ []
+        → inner s t ≡ Ok (reached, one) → next ≡ reached → TellsAll rules after one checker new → Consumes left left' line' → IsLineRead line' left left'
         → Reads known n s checker line left → Reads known (n + 1) next new line' left'
-    reads_on next one new t line' left' whole given tells taken got reads =
+    reads_on reached next one new t line' left' whole given goes tells taken got reads =
+        let given : inner s t ≡ Ok (next, one) = given ∙ ap (λ (q : Stage). Ok (q, one)) (sym goes) in
         if_known (λ text. (rest' : List ℕ) × IsReading text rest' (n + 1) next new line' left') reads
         (λ text rest r. goes_on text rest n s checker line left r t whole next one new line' left' given tells taken got)
 
-    pub reads_stop : (next : Stage) (one : A) (stop : Stop) (layout : Layout) (c : C) (finding : Finding) (t : List ℕ) → line ≡ t ++ 10 ∷ []
-        → inner s t ≡ Ok (next, Some one) → stop.line ≡ n → layout_of c ≡ layout → next ≡ stage.Commands layout
-        → ((h : List E) → HasTold after checker h → StopsAmong rules layout h (rules.tells one) (after c) stop.cause)
+    pub reads_stop : (next : Stage) (asked : Option A) (stop : Stop) (layout : Layout) (new : Option C) (finding : Finding) (t : List ℕ)
+        → line ≡ t ++ 10 ∷ [] → inner s t ≡ Ok (next, asked) → stop.line ≡ n
+        → ComesTo rules layout_of after next checker asked (ToldStop layout stop.cause) new
         → ((c : C) (h : List E) → after c h → rules.IsLegal (layout_of c) h)
-        → ((h : List E) → after c h → SaysOf rules (verdict_of layout h (Some stop)) finding)
+        → ((h : List E) → HasTold after new h → SaysOf rules (verdict_of layout h (Some stop)) finding)
         → Reads known n s checker line left → IfSome known (λ text. Finds (short_line inner) rules text finding)
-    reads_stop next one stop layout c finding t whole given here same goes among legal says reads =
-        if_known (λ text. Finds (short_line inner) rules text finding) reads
-        (λ text rest r. stops text rest n s checker line left r t whole next one stop layout c finding given here same goes among (legal c) says)
+    reads_stop next asked stop layout None finding t whole given here comes legal says reads = absurd comes.1
+    reads_stop next asked stop layout (Some c) finding t whole given here comes legal says reads =
+        let one = comes.1.1 in
+        let asks = given ∙ ap (λ (o : Option A). Ok (next, o)) one.1 in
+        if_known (λ text. Finds (short_line inner) rules text finding) reads (λ text rest r. stops text rest n s checker line left r t whole next one.0
+        stop layout c finding asks here comes.1.0 comes.0 one.2 (legal c) says)
 
     module _ (begins : (l : Layout) → rules.IsLegal l []) (legal : (c : C) (h : List E) → after c h → rules.IsLegal (layout_of c) h)
         (made : IsMadeAt layout_of s checker) (reads : Reads known n s checker line left) where

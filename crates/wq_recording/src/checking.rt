@@ -13,6 +13,7 @@ use crate::lines::{Part, next_line, part_of};
 use crate::trace::Marks;
 use std::alloc::Global;
 use std::io::BufRead;
+use wq_text::Language;
 
 // Whether a first line that was read is that of a trace.
 fn is_trace(line: &[u8]) -> bool
@@ -20,7 +21,7 @@ fn is_trace(line: &[u8]) -> bool
     ensures rest { ¬ EndsWithLf line.now → result ≡ false }
 {
     match part_of(line) {
-        Part::Line(text) => text == b"trace 1".as_slice(),
+        Part::Line(text) => Marks::is_version(text),
         Part::Rest(_) => false,
     }
 }

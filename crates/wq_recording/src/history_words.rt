@@ -4,8 +4,9 @@ ghost use Rattle.wq_text.specs.Fault.{LineGives};
 ghost use Rattle.wq_recording.specs.History.{alone, both, IsOf, owners_telling, senders_telling, telling_at, numbers_give, entry_of, entry_gives};
 
 use crate::entry::Entry;
+use crate::trace::item_of;
 use wq_text::{
-    LineError, item, no_word, number_of_queue, one_word, seat_and_number, why_of, without_last,
+    LineError, no_word, number_of_queue, one_word, seat_and_number, why_of, without_last,
 };
 use wq_words::{Event, Layout, Why};
 
@@ -118,10 +119,7 @@ fn numbers_of(
             let word = one_word(words)?;
             Ok((0, number_of_queue(layout, word)?))
         }
-        Telling::Chain | Telling::ChainBusy => {
-            let word = one_word(words)?;
-            Ok((0, item(layout, word)?))
-        }
+        Telling::Chain | Telling::ChainBusy => Ok((0, item_of(layout, words)?)),
     }
 }
 

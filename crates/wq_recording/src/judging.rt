@@ -1,7 +1,7 @@
 //! From the lines of a recording to what is said of it.
 ghost use Rattle.std.specs.Prelude.{◌≡◌, [], ℕ, List, Option, None, Some, Ok, IfOk, IfErr, IfSome, IsSomeAnd};
 ghost use Rattle.std.specs.Io.KnownBytes.{Consumes};
-ghost use Rattle.wq_text.specs.declared.fault.ParseError.TheVariants.{Refused};
+ghost use Rattle.wq_text.specs.declared.fault.ParseError.TheVariants.{Memory, Refused};
 ghost use Rattle.wq_text.specs.declared.header.Stage.{Stage as Awaited};
 ghost use Rattle.wq_text.specs.declared.header.Stage.TheVariants.{Commands};
 ghost use Rattle.wq_text.specs.Fault.{LineFailsAs};
@@ -38,22 +38,6 @@ pub(crate) enum Told {
     Stop(Layout, Cause),
 }
 
-// The checker of a recording, which is made where there is none yet.
-fn made<L: Recording>(
-    alloc: Global,
-    checker: Option<L::Checker>,
-    layout: Layout,
-) -> Result<L::Checker, AllocError>
-    requires { IfSome checker (λ c. L.layout_of c ≡ layout) }
-    ensures layout { IfOk result (λ c. L.layout_of c ≡ layout) }
-    ensures told { IfOk result (λ c. (h : List L.Event) → HasTold L.is_after checker h → L.is_after c h) }
-{
-    match checker {
-        Some(checker) => Ok(checker),
-        None => L::checker(alloc, layout),
-    }
-}
-
 // Tells a checker of this layout what is asked for.
 fn tell_asked<L: Recording>(layout: Layout, checker: &mut L::Checker, asked: L::Asked) -> Told
     requires made { L.layout_of checker.old ≡ layout }
@@ -77,15 +61,18 @@ fn tell<L: Recording>(
     requires fits { IfSome asked (λ a. (layout : Numbers) × (next ≡ Commands layout) × L.fits layout a) }
     ensures { IfOk result (λ told. ComesTo L.rules L.layout_of L.is_after next checker.old asked told checker.new) }
 {
-    match (next, asked) {
-        (Stage::Commands(layout), Some(asked)) => match checker {
-            Some(checker) => Ok(tell_asked::<L>(layout, checker, asked)),
-            None => {
-                let checker = checker.insert(L::checker(alloc, layout)?);
-                Ok(tell_asked::<L>(layout, checker, asked))
-            }
-        },
-        _ => Ok(Told::On(next)),
+    let Some(asked) = asked else {
+        return Ok(Told::On(next));
+    };
+    let Stage::Commands(layout) = next else {
+        unreachable!();
+    };
+    match checker {
+        Some(checker) => Ok(tell_asked::<L>(layout, checker, asked)),
+        None => {
+            let checker = checker.insert(L::checker(alloc, layout)?);
+            Ok(tell_asked::<L>(layout, checker, asked))
+        }
     }
 }
 
@@ -123,18 +110,38 @@ fn refusal(line: u64, error: LineError) -> CheckError
     }
 }
 
+// What is said of the events that were told, none where there is no checker yet, and of the stop behind them.
+fn found_so_far<L: Recording>(
+    alloc: Global,
+    layout: Layout,
+    checker: &Option<L::Checker>,
+    stop: Option<Stop>,
+) -> Result<Finding, CheckError>
+    ensures says { IfOk result (λ finding. (h : List L.Event) → HasTold L.is_after checker.now h → SaysOf L.rules (verdict_of layout h stop) finding) }
+    ensures stop { IfOk result (λ finding. finding.stop ≡ stop) }
+    ensures memory { IfErr result (λ error. error ≡ Text Memory) }
+{
+    match checker {
+        Some(checker) => found::<L>(alloc, layout, checker, stop),
+        None => {
+            let checker = L::checker(alloc, layout)?;
+            found::<L>(alloc, layout, &checker, stop)
+        }
+    }
+}
+
 // What is said where no LF comes behind the line before line `number`.
 fn last<L: Recording>(
     alloc: Global,
     number: u64,
     stage: Stage,
-    checker: Option<L::Checker>,
+    checker: &Option<L::Checker>,
     rest: &[u8],
 ) -> Result<Finding, CheckError>
-    requires { IsMadeAt L.layout_of stage checker }
+    requires { IsMadeAt L.layout_of stage checker.now }
     ensures whole { IfOk result (λ _. rest.now ≡ []) }
     ensures stop { IfOk result (λ finding. finding.stop ≡ None) }
-    ensures found { IfOk result (λ finding. (layout : Numbers) × (layout_at stage ≡ Some layout) × ((h : List L.Event) → HasTold L.is_after checker h
+    ensures found { IfOk result (λ finding. (layout : Numbers) × (layout_at stage ≡ Some layout) × ((h : List L.Event) → HasTold L.is_after checker.now h
         → L.rules.IsLegal layout h × SaysOf L.rules (verdict_of layout h None) finding)) }
     ensures refused { IfErr result (λ error. IfTextRefused error (λ e. (e.line ≡ number) × (last_fault stage rest.now ≡ Some e.kind))) }
 {
@@ -145,8 +152,7 @@ fn last<L: Recording>(
         return Err(refused(number, Kind::Cut));
     }
     let layout = layout_at_end(number, stage)?;
-    let checker = made::<L>(alloc, checker, layout)?;
-    found::<L>(alloc, layout, &checker, None)
+    found_so_far::<L>(alloc, layout, checker, None)
 }
 
 /// What is said of a recording of which this line was read.
@@ -169,7 +175,7 @@ pub(crate) fn judge<L: Recording, B: BufRead>(
     for number in 1..u64::MAX {
         let text = match part_of(line) {
             Part::Line(text) => text,
-            Part::Rest(rest) => return last::<L>(alloc, number, stage, checker, rest),
+            Part::Rest(rest) => return last::<L>(alloc, number, stage, &checker, rest),
         };
         let told = match tell_line::<L>(alloc, stage, &mut checker, text) {
             Ok(told) => told,
@@ -182,8 +188,7 @@ pub(crate) fn judge<L: Recording, B: BufRead>(
                     line: number,
                     cause,
                 };
-                let checker = checker.unwrap();
-                return found::<L>(alloc, layout, &checker, Some(stop));
+                return found_so_far::<L>(alloc, layout, &checker, Some(stop));
             }
         }
         next_line(reader, line)?;

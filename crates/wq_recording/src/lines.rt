@@ -62,8 +62,9 @@ fn append_part<B: BufRead>(reader: &mut B, line: &mut Vec<u8>) -> io::Result<boo
         Err(error) => return unless_interrupted(error),
     };
     let count = part_len(bytes, MOST_BYTES + 1 - line.len());
-    line.extend_from_slice(&bytes[..count])?;
-    let is_end = is_end(&bytes[..count]);
+    let part = &bytes[..count];
+    line.extend_from_slice(part)?;
+    let is_end = is_end(part);
     let is_long = line.len() > MOST_BYTES;
     reader.consume(count);
     Ok(is_end | is_long)

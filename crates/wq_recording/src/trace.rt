@@ -30,7 +30,7 @@ fn sight_of(word: &str) -> Option<Sight>
 }
 
 // The item in the one word that stands there.
-fn item_of(layout: Layout, words: &[&str]) -> Result<u32, LineError>
+pub(crate) fn item_of(layout: Layout, words: &[&str]) -> Result<u32, LineError>
     ensures exact { LineGives result (one (item layout) (map (λ w. w.now) words.now)) }
     ensures within { IfOk result (λ n. n < layout.items) }
 {

@@ -89,9 +89,9 @@ fn write_verdict<L: Recording>(
     ensures { OnOk result ((h : List L.Event) → L.is_after checker.now h
         → string_bytes out.new ≡ string_bytes out.old ++ verdict_text L.rules (verdict_of layout.now h stop)) }
 {
-    let numbers = left_numbers::<L>(alloc, checker)?;
     write_head(L::word(), layout, L::told_count(checker), stop, out)?;
     L::write_counts(checker, out)?;
+    let numbers = left_numbers::<L>(alloc, checker)?;
     write_row(layout, "left", &numbers, out)
 }
 

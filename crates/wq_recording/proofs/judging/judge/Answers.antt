@@ -1,4 +1,4 @@
-use Rattle.wq_recording.proofs.Common.{◌≡◌, ℕ, List, [], Some, Ok, Err, sym, ap, subst, ◌∙◌, refl, line_gives, short_line, last_fault, IsRefusedText, IsMadeAt, ScriptError, Stage}
+use Rattle.wq_recording.proofs.Common.{◌≡◌, ℕ, List, [], Some, Err, sym, subst, ◌∙◌, refl, line_gives, short_line, last_fault, IsRefusedText, IsMadeAt, ScriptError, Stage}
 use Rattle.std.specs.Prelude.{IsSomeAnd}
 use Rattle.std.proofs.lemmas.Result.{err_from_is_err_and, IfErr-weaker}
 use Rattle.wq_text.specs.Sound.{SoundAt}
@@ -85,20 +85,18 @@ returns-in-Stop-clause-found g c = λ known taken got.
     let reads = l.invariant.reads known taken got in
     let line = c.in-Line.text.now in
     let whole = sym c.deref.ensures.value ∙ c.in-Line.ensures in
-    let told = rw (c.in-Stop.is, c.unwrap-checker.ensures) at c.in-Ok.ensures.told in
-    let comes = told.4 in
-    let stops = comes.1.1 in
-    let given = told.2 ∙ ap (λ one. Ok (told.0, one)) stops.1 in
-    ok_by_two c.found.result c.found.ensures.says c.found.ensures.stop (λ finding says stop.
+    let told = rw (c.in-Stop.is) at c.in-Ok.ensures.told in
+    ok_by_two c.found_so_far.result c.found_so_far.ensures.says c.found_so_far.ensures.stop (λ finding says stop.
     both_known known _ _
-    (reads_stop gives r.rules r.layout_of r.is_after known l.number l.stage l.checker l.line.items left told.0 stops.0 _ c.in-Stop.layout
-    c.unwrap-checker.result finding line whole given refl comes.1.0 comes.0 stops.2 g.met.L.Recording.legal says reads)
+    (reads_stop gives r.rules r.layout_of r.is_after known l.number l.stage l.checker l.line.items left told.0 told.1
+    (record { line = l.number; cause = c.in-Stop.cause }) c.in-Stop.layout c.tell_line.new.checker finding line whole told.2 refl told.4
+    g.met.L.Recording.legal says reads)
     (read_to_stop gives r.rules r.layout_of r.is_after known l.number l.stage l.checker l.line.items left reads finding.stop _ line stop refl whole))
 
 -- want of memory says nothing of the text
 pub returns-in-Stop-clause-refused : goal.returns-in-Stop-clause-refused
 returns-in-Stop-clause-refused g c = λ known taken got.
-    IfErr-weaker c.found.result _ _ (λ error is. rw is (says_nothing known)) c.found.ensures.memory
+    IfErr-weaker c.found_so_far.result _ _ (λ error is. rw is (says_nothing known)) c.found_so_far.ensures.memory
 
 -- nor does a reader that failed
 pub returns-in_err-next_line : goal.returns-in_err-next_line
@@ -116,14 +114,12 @@ loop-number-preserved g c =
     let whole = sym c.deref.ensures.value ∙ c.in-Line.ensures in
     let told = rw (c.in-On.is) at c.in-Ok.ensures.told in
     let comes = told.4 in
-    let next = c.in-On.next in
-    let given = told.2 ∙ ap (λ (s : Stage). Ok (s, told.1)) (sym comes.0) in
     let language = g.L.Language in
     record {
       sound = subst (λ (s : Stage). SoundAt language.grammar.most.senders language.fits s []) (sym comes.0) told.3;
       made = subst (λ (s : Stage). IsMadeAt r.layout_of s c.tell_line.new.checker) (sym comes.0) comes.1;
       reads = λ known taken got. reads_on (line_gives language.grammar) r.rules r.layout_of r.is_after known l.number l.stage l.checker
-          l.line.items (g.B.Read.remaining l.reader) next told.1 c.tell_line.new.checker c.in-Line.text.now c.next_line.new.line.items
-          (g.B.Read.remaining c.next_line.new.reader) whole given comes.2 c.in_ok-next_line.ensures.bytes c.in_ok-next_line.ensures.line
-          (l.invariant.reads known taken got);
+          l.line.items (g.B.Read.remaining l.reader) told.0 c.in-On.next told.1 c.tell_line.new.checker c.in-Line.text.now
+          c.next_line.new.line.items (g.B.Read.remaining c.next_line.new.reader) whole told.2 comes.0 comes.2 c.in_ok-next_line.ensures.bytes
+          c.in_ok-next_line.ensures.line (l.invariant.reads known taken got);
     }

@@ -1,21 +1,43 @@
-use Rattle.std.proofs.lemmas.Result.{IfOk-weaker, IfErr-weaker}
-use Rattle.wq_recording.proofs.Common.{subst, Layout}
+use Rattle.wq_recording.proofs.Common.{sym, ◌∙◌, refl, arith}
+use Rattle.std.proofs.lemmas.Result.{err_from_is_err_and, IfOk-weaker, IfErr-weaker}
+use Rattle.wq_recording.proofs.LastLine.{last_long, last_cut, nothing_left, ends_refused}
+use Rattle.wq_recording.proofs.Telling.{told_legal}
 use Rattle.wq_recording.proofs.judging.last.Goals as goal
 
-pub returns-clause-found : goal.returns-clause-found
-returns-clause-found g c =
-    let layout = c.in_ok-layout.layout in
-    let checker = c.in_ok-checker.checker in
-    let legal = g.met.L.Recording.legal in
-    IfOk-weaker c.found.result _ _ (λ finding says. (
-      layout,
-      c.in_ok-layout.ensures.whole,
-      λ h told.
-          let after = c.in_ok-checker.ensures.told h told in
-          let P : Layout → Type 0 = λ l. g.L.Recording.rules.IsLegal l h in
-          (subst P c.in_ok-checker.ensures.layout (legal checker h after), says h after),
-    )) c.found.ensures.says
+pub returns-then-rest-gt-MOST_BYTES-clause-refused : goal.returns-then-rest-gt-MOST_BYTES-clause-refused
+returns-then-rest-gt-MOST_BYTES-clause-refused g c = rw c.refused.ensures (refl, last_long c.args.stage c.args.rest.now (omega arith))
 
--- memory was wanting
-pub returns-clause-refused : goal.returns-clause-refused
-returns-clause-refused g c = IfErr-weaker c.found.result _ _ (λ error is. rw is tt) c.found.ensures.memory
+pub returns-then-not-is_empty-clause-refused : goal.returns-then-not-is_empty-clause-refused
+returns-then-not-is_empty-clause-refused g c =
+    let some = sym c.is_empty.ensures ∙ c.if-not-is_empty.true in
+    rw c.refused-then-not-is_empty.ensures (refl, last_cut c.args.stage c.args.rest.now (omega arith) some)
+
+pub returns-in_err-layout-clause-refused : goal.returns-in_err-layout-clause-refused
+returns-in_err-layout-clause-refused g c =
+    let rest = c.args.rest.now in
+    let none = nothing_left rest (sym c.is_empty.ensures ∙ c.if-not-is_empty.false) in
+    let p = err_from_is_err_and c.from_residual.result c.from_residual.ensures.1 in
+    rw (p.1, p.2) (ends_refused c.args.stage c.args.number rest c.in_err-layout.field-0.0 none c.in_err-layout.ensures.refused)
+
+-- the end of the text behind a whole header; an error is want of memory
+pub returns : goal.returns
+returns g c =
+    let r = g.L.Recording in
+    let laws = g.met.L.Recording in
+    let done = c.found_so_far.ensures in
+    let layout = c.in_ok-layout.layout in
+    let whole = c.in_ok-layout.ensures.whole in
+    let none = nothing_left c.args.rest.now (sym c.is_empty.ensures ∙ c.if-not-is_empty.false) in
+    record {
+      whole = IfOk-weaker c.found_so_far.result _ _ (λ finding stop. none) done.stop;
+      stop = done.stop;
+      found = IfOk-weaker c.found_so_far.result _ _ (λ finding says. (
+        layout,
+        whole,
+        λ h told. (
+          told_legal r.rules r.layout_of r.is_after laws.begins laws.legal c.args.stage layout c.args.checker.now h whole c.requires told,
+          says h told,
+        ),
+      )) done.says;
+      refused = IfErr-weaker c.found_so_far.result _ _ (λ error is. rw is tt) done.memory;
+    }

@@ -1,11 +1,9 @@
-use Rattle.std.proofs.Common.{◌≡◌, ◌≤◌, ◌||◌, OnSome, length, take, refl, sym, subst, nat_lt, rules}
+use Rattle.std.proofs.Common.{◌≡◌, OnSome, length, take, refl, subst, nat_lt, rules}
 use Rattle.std.specs.Io.BufRead.{FillKeeps}
 use Rattle.std.proofs.BufReadLemmas.{Consumes_shown}
 use Rattle.std.proofs.Transfers.{starts_with_of_eq}
-use Rattle.std.specs.Io.{StartsWith, StopsAt, appended_bytes}
 use Rattle.std.specs.Io.KnownBytes.{Consumes, IsAtEnd}
-use Rattle.wq_recording.specs.Lines.{EndsOrGoesOn}
-use Rattle.wq_recording.proofs.LineBytes.{part_room, part_stops, part_appends, part_bytes, part_read, same_stops, same_bytes, same_done}
+use Rattle.wq_recording.proofs.LineBytes.{part_room, part_stops, part_appends, part_bytes, part_read, same_room, same_stops, same_bytes, same_done}
 use Rattle.wq_recording.proofs.lines.append_part.Given.{Over}
 use Rattle.wq_recording.proofs.lines.append_part.Goals as goal
 
@@ -31,7 +29,7 @@ returns-in_err-extend_from_slice g c =
     let known = g.B.Read.remaining c.args.reader.now in
     let left = g.B.Read.remaining c.fill_buf.follows.lender-at-none in
     record {
-      room = subst (λ l. length l ≤ 4097) (sym same) c.requires.room;
+      room = same_room line new same c.requires.none c.requires.room;
       stops = same_stops line new same c.requires.none;
       appends = starts_with_of_eq new line same;
       bytes = same_bytes line new same c.requires.none known left c.fill_buf.follows.holds-at-none.0;
@@ -49,47 +47,22 @@ consumed g c =
     Consumes_shown _ _ _ _ c.in-Ok.bytes.now count.result count.ensures.bound c.in-Ok.ensures.front c.in-Ok.ensures.end filled.0 filled.1
     c.consume.ensures.bytes
 
-pub returns-clause-room : goal.returns-clause-room
-returns-clause-room g c =
-    let items = c.in_ok-extend_from_slice.ensures.items in
-    let count = c.part_len-count in
-    subst (λ line. length line ≤ 4097) (sym items)
-    (part_room c.args.line.now.items c.in-Ok.bytes.now count.result count.ensures.bound c.requires.room
-    (search rules))
-
-pub returns-clause-stops : goal.returns-clause-stops
-returns-clause-stops g c =
-    let items = c.in_ok-extend_from_slice.ensures.items in
-    let count = c.part_len-count in
-    subst (λ line. StopsAt line 10) (sym items)
-    (part_stops c.args.line.now.items c.in-Ok.bytes.now count.result count.ensures.bound c.requires.none count.ensures.before)
-
-pub returns-clause-appends : goal.returns-clause-appends
-returns-clause-appends g c =
-    let items = c.in_ok-extend_from_slice.ensures.items in
-    let count = c.part_len-count in
-    subst (λ line. StartsWith line c.args.line.now.items) (sym items)
-    (part_appends c.args.line.now.items c.in-Ok.bytes.now count.result count.ensures.bound)
-
-pub returns-clause-bytes : goal.returns-clause-bytes
-returns-clause-bytes g c =
-    let items = c.in_ok-extend_from_slice.ensures.items in
-    let count = c.part_len-count in
+pub returns : goal.returns
+returns g c =
+    let old = c.args.line.now.items in
+    let new = c.extend_from_slice.new.self.items in
+    let same = c.in_ok-extend_from_slice.ensures.items in
     let bytes = c.in-Ok.bytes.now in
+    let count = c.part_len-count in
+    let within = count.ensures.bound in
     let known = g.B.Read.remaining c.args.reader.now in
     let left = g.B.Read.remaining c.consume.new.self in
     let moved = consumed g c in
-    subst (λ line. Consumes known left (appended_bytes c.args.line.now.items line)) (sym items)
-    (part_bytes c.args.line.now.items bytes count.result count.ensures.bound known left moved.0)
-
-pub returns-clause-done : goal.returns-clause-done
-returns-clause-done g c =
-    let items = c.in_ok-extend_from_slice.ensures.items in
-    let count = c.part_len-count in
-    let bytes = c.in-Ok.bytes.now in
-    let known = g.B.Read.remaining c.args.reader.now in
-    let left = g.B.Read.remaining c.consume.new.self in
-    let moved = consumed g c in
-    subst (λ line. EndsOrGoesOn (c.is_end-is_end.result || nat_lt 4096 c.len-is_long.result) line known left) (sym items)
-    (part_read c.args.line.now.items bytes count.result count.ensures.bound known left c.is_end-is_end.result (nat_lt 4096 c.len-is_long.result)
-    c.requires.room c.requires.none count.ensures.before c.is_end-is_end.ensures (search rules) (search rules) moved.1)
+    record {
+      room = part_room old bytes count.result within new same c.requires.room (search rules);
+      stops = part_stops old bytes count.result within new same c.requires.none count.ensures.before;
+      appends = part_appends old bytes count.result within new same;
+      bytes = part_bytes old bytes count.result within new same known left moved.0;
+      done = part_read old bytes count.result within new same known left c.is_end-is_end.result (nat_lt 4096 c.len-is_long.result)
+          c.requires.room c.requires.none count.ensures.before c.is_end-is_end.ensures (search rules) (search rules) moved.1;
+    }
