@@ -35,7 +35,8 @@ use wq_ledger::{Book, Totals};
 use wq_live::{Owner, Pair, Sender, Spins, build};
 use wq_words::Layout;
 
-/// An owner and a sender of one queue, in one seat, and the work that runs its items.
+/// An owner and a sender of one queue, in one seat, and the work that runs its items. One that is dropped leaves what it took, and
+/// all that is pushed after that, pending for good.
 #[derive(Drop)]
 pub struct Worker<W: Work> {
     pair: Pair,
@@ -91,7 +92,8 @@ impl<W: Work> Worker<W> {
         }
     }
 
-    /// How long it gives way after a lost exchange, and after a short take where it serves.
+    /// How long it gives way after a lost exchange, between the tries of one queueing, and after a short take where it serves. With one
+    /// try no queueing gives way, and one that is owed is tried again at once: beside busy senders give a worker more.
     pub fn set_spins(&mut self, spins: Spins)
         ensures same { self.new ≡ self.old }
     {
@@ -239,10 +241,10 @@ impl<W: Work> Worker<W> {
     /// resume, and the queue did not rest already. The next queueing then answers `wakes`. Where it answers false, run on:
     /// something was pushed, or nothing was taken since the last rest.
     ///
-    /// A loop of one's own runs until `run_one` answers `Nothing`, rests, and parks where that answered true or the queue
-    /// rests already; its senders unpark it where their answer says `wakes`, once a rest and not once an item. No wake-up is
-    /// missed then (this is not proved): a push before the rest makes the rest answer false, and the first push after it says
-    /// `wakes`; what unparks a worker that has not parked yet keeps its next park from waiting.
+    /// A loop of one's own runs until `run_one` answers `Nothing`, rests, and parks where that answered true; its senders
+    /// unpark it where their answer says `wakes`, once a rest and not once an item. No wake-up is missed then (this is not proved): a
+    /// push before the rest makes the rest answer false, and the first push after it says `wakes`; what unparks a worker that has not
+    /// parked yet keeps its next park from waiting.
     pub fn rest(&mut self) -> bool
         requires open { ¬ IsShut self.old.seen }
         requires none { HasNoneLeft self.old.seen }
@@ -299,7 +301,7 @@ impl<W: Work> Worker<W> {
         self.pair.is_closed()
     }
 
-    /// Whether the queue drains: a drain came to its limit, and has not ended.
+    /// Whether the queue drains: a drain came to its limit, or its owner had begun one before, and it has not ended.
     pub fn is_draining(&self) -> bool
         ensures draining { IsTrue result ↔ IsDraining self.now.seen }
         ensures else_open { result ≡ false → ¬ IsClosed self.now.seen → ¬ IsShut self.now.seen }

@@ -1,10 +1,18 @@
 use Rattle.std.proofs.Common.{◌≡◌, ℕ, [], length, sym, ap, ◌∙◌, subst}
 use Rattle.std.specs.Prelude.{All}
-use Rattle.wq_words.specs.History.{Holds}
+use Rattle.wq_words.specs.History.{Holds, begun}
 use Rattle.wq_live.specs.Known.{QueueId, Known, new_senders, AreNumbered}
 use Rattle.wq_calls.proofs.Seated.{one_less, all_front, all_last, numbered_front}
 use Rattle.wq_worker.proofs.Joined.{made_new, made_open}
 use Rattle.wq_worker.proofs.worker.Worker.build.Goals as goal
+
+pub new-requires : goal.new-requires
+new-requires g c = let o = c.in-Ok.ensures in let P = λ (k : Known). k.queue ≡ c.in-Ok.owner.queue in record {
+  one = all_last P c.pop.new.self.items c.in-Some.sender (subst (All P) c.in-Some.ensures.items o.one);
+  tries = c.requires.tries;
+  unbegun = ap begun o.unseen.0;
+  unrun = c.requires.unrun;
+}
 
 pub returns-in-Some-clause-worker : goal.returns-in-Some-clause-worker
 returns-in-Some-clause-worker g c = let n = c.new.ensures in let o = c.in-Ok.ensures in let s = c.in-Some.sender in
