@@ -97,7 +97,7 @@ pub enum Reply {
 /// it linked to it.
 #[derive(Clone, Copy, Debug, PartialEq, Eq)]
 pub struct Private {
-    /// The head word of its last look.
+    /// The head word of its last look, if it has not tried a push since.
     pub seen: Option<u64>,
     /// The number that it linked to that word.
     pub linked: Option<u32>,

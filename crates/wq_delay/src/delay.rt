@@ -32,7 +32,8 @@ fn tick_after(now: u64, next: u128, delay: u64) -> Option<u64>
     now.checked_add(delay)
 }
 
-/// A sender, and the items that it holds until their ticks.
+/// A sender, and the items that it holds until their ticks. One that is dropped leaves them pending for good; `dissolve` gives
+/// them back.
 #[derive(Drop)]
 pub struct Delay {
     alloc: Global,
@@ -120,7 +121,7 @@ impl Delay {
     }
 
     /// How many slots of the wheel the last answered advance looked at, by its own count: one for each tick, or each slot once where
-    /// that is fewer. Of a slot where nothing can be due it looks at the earliest tick that stands for it, and at no item.
+    /// that is fewer. Of a slot whose earliest tick has not come it looks at that tick, and at no item.
     pub fn looked(&self) -> u32
         ensures count { result ≡ self.now.looked }
     {
@@ -128,7 +129,8 @@ impl Delay {
     }
 
     /// Puts an idle item on the table, due so many ticks from now, and with delay 0 queues it at once with at most so many
-    /// tries (`queue_delayed_work`). A delay is at most `2^32 - 1`.
+    /// tries (`queue_delayed_work`). A delay is at most `2^32 - 1`. With a delay above 0 the queue is not looked at: where it is closed
+    /// the item goes on the table, and an advance gives it back.
     pub fn arm(&mut self, item: u32, delay: u64, tries: u32) -> Armed
         requires item { item < self.old.sender.layout.items }
         requires tries { 0 < tries }

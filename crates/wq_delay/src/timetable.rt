@@ -35,8 +35,9 @@ struct DueItem {
 // the order of armings; the head of a slot's ring is the place behind all items, and of the slots before it. What is due stands
 // in the row, in order, from the place `front` on, among items that have left it. It stays there until it goes out: what an
 // advance finds is due later than all that stands there, and is put behind it, so no advance takes longer for what is left.
-// In `earliest` stands for each slot a tick before which nothing that waits in it is due, the last tick where nothing waits. An
-// advance goes round a slot's ring only where that tick has come, and then notes the earliest tick of what still waits there.
+// In `earliest` stands for each slot a tick before which nothing that waits in it is due, the last of all ticks where nothing has
+// waited since it was noted. An advance goes round a slot's ring only where that tick has come, and then notes the earliest tick of
+// what still waits there.
 #[derive(Drop)]
 pub(crate) struct Timetable {
     places: Vec<Option<Place>>,

@@ -128,7 +128,8 @@ impl Book {
     /// The sums of all counts, where each sender but the worker's has one ledger of this book and no count is saturated.
     ///
     /// # Errors
-    /// The first sender that has no ledger, more than one, or a saturated count.
+    /// The first sender that has no ledger, more than one, or a saturated count. The worker's own sender comes last, also for a
+    /// saturated count of the owner.
     pub fn balance(&self, ledgers: &[Ledger]) -> Result<Totals, Unbalanced>
         requires { All (IsLedgerOf self.now.seen) ledgers.now }
         ensures outcome { MatchResult result (Balances self.now ledgers.now) (IsUnbalanced self.now ledgers.now) }

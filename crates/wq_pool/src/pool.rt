@@ -65,7 +65,8 @@ impl<K: Station + Drop> PoolOf<K> {
     /// says `wakes` any more before its next rest.
     ///
     /// # Errors
-    /// `NoQueue` exactly where no queue is handed in, or more than 256. What was handed in is dropped.
+    /// `NoQueue` exactly where no queue is handed in, or more than 256, else `Memory`. What was handed in is dropped after either: those
+    /// queues have no owner any more.
     pub fn new(
         alloc: Global,
         queues: Vec<ServedOf<K>>,

@@ -219,10 +219,11 @@ impl<K: Station + Drop + Send> PoolOf<K> {
     /// is one that was taken off the ready queue and not looked at. One that was announced more than once may be so but once then.
     ///
     /// It does not end while a queue has no stop item to run: one that was closed without it, as all are after a `finish` that
-    /// gave the pool back, is to be worked on by `pick`.
+    /// gave the pool back, is to be worked on by `pick`. Nor does it end once a turn or a `Worked` was dropped whose queue's stop item
+    /// had not run: a thread that picks such a queue waits for it for good.
     ///
     /// # Errors
-    /// None: see the contract.
+    /// None: it always answers Ok.
     pub fn run<R: Threads + Wait + Sync, G: Gate + Sync>(
         &self,
         rt: &R,

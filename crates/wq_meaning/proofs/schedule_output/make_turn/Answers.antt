@@ -8,7 +8,8 @@ use Rattle.wq_meaning.proofs.schedule_output.make_turn.Goals as goal
 pub returns-in-Ok-clause-gives : goal.returns-in-Ok-clause-gives
 returns-in-Ok-clause-gives c = on_ok_weaker c.write_made.result (λ wrote.
     let step = c.args.step in
-    let text = ap (λ l. line (made_text l step c.in-Ok.reply)) (sym c.requires.same) ∙ ap (λ r. line (made_text c.args.core.now.layout step r)) c.in-Ok.ensures.reply in
+    let text = ap (λ l. line (made_text l step c.in-Ok.reply)) (sym c.requires.same)
+    ∙ ap (λ r. line (made_text c.args.core.now.layout step r)) c.in-Ok.ensures.reply in
     (line (made_text c.args.layout.now step c.in-Ok.reply), inl (c.in-Ok.ensures.made.1, c.in-Ok.ensures.after, text), wrote))
     c.write_made.ensures.written
 
