@@ -6,7 +6,7 @@ use Rattle.wq_calls.proofs.Common.{KnownWith, Learnt, owner_seat, Grows, legal_f
 use Rattle.wq_words.specs.declared.event.Event.TheVariants.{Chain, Rest}
 use Rattle.wq_words.specs.declared.answer.Answer.TheVariants as answer
 use Rattle.wq_words.proofs.Valued.{legal_with}
-use Rattle.wq_calls.specs.Answers.{Chains}
+pub use Rattle.wq_calls.specs.Answers.{Chains}
 use Rattle.wq_calls.specs.KnownWith.{handed_in}
 use Rattle.wq_calls.specs.Laws.{IsStillEnd}
 use Rattle.wq_calls.proofs.OwnerTells.{stands_legal}

@@ -22,7 +22,9 @@ invariant_of-self c = let e = c.queue_number.ensures in let s = c.self.inside in
 
 pub returns : goal.returns
 returns c = let s = c.self.inside in let is = c.self.view_is in let q = c.queue_number in let e = q.ensures in
-    let item = c.args.item in let tries = c.args.tries in let pair = (invariant_of-self c).seated in let was = c.self.invariant.seated in
+    let item = c.args.item in let tries = c.args.tries in let was = c.self.invariant.seated in
+    let pair = (pair_queues s c.self.invariant q.new.chair q.new.sent e.learns e.sends (answers_same _ _ q.result _ _ e.answer).layout_is
+    (queued_hand 1 _ s.seat.chair q.new.chair _ q.result e.slots)).seated in
     let others = owner_looks s.seat q.new.chair s.sent was e.learns c.args.self.now is in record {
       answer = subst (λ (k : Known × Known). Answers item tries q.result k.0 k.1)
           (λ i. ((sender_is s.seat s.sent was ∙ ap pair_sender is) i, sender_is (record s.seat { chair = q.new.chair }) q.new.sent pair i)) e.answer;

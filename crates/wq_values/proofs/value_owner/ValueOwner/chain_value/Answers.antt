@@ -1,8 +1,7 @@
 use Rattle.wq_values.proofs.Common.{◌≡◌, ◌<◌, ◌++◌, ap, sym, ◌∙◌, subst, begun, ended, running, IsRunning, IsClosed, IsShut, Known, IsSame, answer_of}
 use Rattle.wq_values.proofs.Common.{batch, queued_number, owning, owner_view}
-use Rattle.wq_calls.specs.Answers.{Chains}
 use Rattle.wq_calls.proofs.ValueSeats.{known_is, owner_learnt}
-use Rattle.wq_calls.proofs.HandedOver.{owner_chains}
+use Rattle.wq_calls.proofs.HandedOver.{Chains, owner_chains}
 use Rattle.wq_values.proofs.Alone.{values_alone}
 use Rattle.wq_values.proofs.value_owner.ValueOwner.chain_value.Goals as goal
 
