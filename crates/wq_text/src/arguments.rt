@@ -136,7 +136,7 @@ fn word_and_at_most_four<'a, 'b>(
 }
 
 // A sender, and a number below `bound`.
-pub(crate) fn sender_and_below(
+fn sender_and_below(
     layout: Layout,
     kind: Kind,
     bound: u32,
@@ -149,6 +149,22 @@ pub(crate) fn sender_and_below(
     let sender = sender(layout, sender_word)?;
     let number = below(kind, bound, word)?;
     Ok((sender, number))
+}
+
+// A sender and an item.
+pub(crate) fn sender_and_item(layout: Layout, words: &[&str]) -> Result<(u32, u32), LineError>
+    ensures exact { LineGives result (two (sender layout) (item layout) (map (λ w. w.now) words.now)) }
+    ensures within { IfOk result (λ n. (n.0 < layout.senders) × (n.1 < layout.items)) }
+{
+    sender_and_below(layout, Kind::Item, layout.items, words)
+}
+
+// A sender and a barrier.
+pub(crate) fn sender_and_barrier(layout: Layout, words: &[&str]) -> Result<(u32, u32), LineError>
+    ensures exact { LineGives result (two (sender layout) (barrier layout) (map (λ w. w.now) words.now)) }
+    ensures within { IfOk result (λ n. (n.0 < layout.senders) × (n.1 < layout.barriers)) }
+{
+    sender_and_below(layout, Kind::Barrier, layout.barriers, words)
 }
 
 // An item and a delay in ticks.

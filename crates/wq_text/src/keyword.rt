@@ -6,10 +6,10 @@ ghost use Rattle.wq_text.specs.Keyword.{keyword_at, keyword_at_2, command_gives}
 
 use crate::arguments::{
     item_and_delay, item_and_follow, no_word, number, one_item, one_limit, one_word, sender,
-    sender_and_below,
+    sender_and_barrier, sender_and_item,
 };
 use crate::command::Command;
-use crate::fault::{Kind, LineError};
+use crate::fault::LineError;
 use wq_words::Layout;
 
 // The first words of commands.
@@ -78,7 +78,7 @@ pub(crate) fn command(
 {
     match keyword {
         Keyword::Queue => {
-            let (sender, item) = sender_and_below(layout, Kind::Item, layout.items, words)?;
+            let (sender, item) = sender_and_item(layout, words)?;
             Ok(Command::Queue { sender, item })
         }
         Keyword::Run => one_limit(words).map(Command::Run),
@@ -89,21 +89,11 @@ pub(crate) fn command(
             Ok(Command::Follow { item, follow })
         }
         Keyword::Flush => {
-            let (sender, barrier) = sender_and_below(
-                layout,
-                Kind::Barrier,
-                layout.barriers,
-                words,
-            )?;
+            let (sender, barrier) = sender_and_barrier(layout, words)?;
             Ok(Command::Flush { sender, barrier })
         }
         Keyword::Done => {
-            let (sender, barrier) = sender_and_below(
-                layout,
-                Kind::Barrier,
-                layout.barriers,
-                words,
-            )?;
+            let (sender, barrier) = sender_and_barrier(layout, words)?;
             Ok(Command::Done { sender, barrier })
         }
         Keyword::Stop => one_word(words)

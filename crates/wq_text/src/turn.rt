@@ -1,5 +1,5 @@
 //! The steps of a schedule, as words.
-ghost use Rattle.std.specs.Prelude.{◌≡◌, ◌≢◌, ◌<◌, ◌-◌, ◌==◌, Err, true, false, length, map, MatchOption, IfOk, IfSome};
+ghost use Rattle.std.specs.Prelude.{◌≡◌, ◌≢◌, ◌<◌, ◌-◌, ◌==◌, Err, length, map, is_none, MatchOption, IfOk, IfSome};
 ghost use Rattle.wq_words.specs.Numbers.{number_count};
 ghost use Rattle.wq_text.specs.declared.fault.LineError.TheVariants.{Memory};
 ghost use Rattle.wq_text.specs.Fault.{LineGives, of_two};
@@ -261,7 +261,9 @@ pub fn without_last<'a, 'b>(words: &'b [&'a str]) -> &'b [&'a str]
 
 // The word that names a step, and the last one.
 fn word_and_last<'a>(words: &[&'a str]) -> Option<(&'a str, &'a str)>
-    ensures { let all = map (λ w. w.now) words.now in MatchOption result ((length all == 0) ≡ true) (λ w. ((length all == 0) ≡ false) × (w.0.now ≡ nth_word 0 all) × (w.1.now ≡ nth_word (length all - 1) all)) }
+    ensures none { (length (map (λ w. w.now) words.now) == 0) ≡ is_none result }
+    ensures word { IfSome result (λ w. w.0.now ≡ nth_word 0 (map (λ w. w.now) words.now)) }
+    ensures last { IfSome result (λ w. w.1.now ≡ nth_word (length (map (λ w. w.now) words.now) - 1) (map (λ w. w.now) words.now)) }
 {
     match words {
         [] => None,
