@@ -1,5 +1,5 @@
 //! That a race runs: what its threads do beside what the contracts say.
-ghost use Rattle.wq_plan.specs.Team.{IsNewTeam};
+ghost use Rattle.wq_race.specs.Team.{IsNewTeam};
 
 use crate::expect::expect_same;
 use crossbeam_utils::sync::Parker;
@@ -9,8 +9,9 @@ use std::sync::Wait;
 use std::thread::{Scope, Threads, scope, scope_env, yield_now};
 use std::time::{Duration, Instant};
 use wq_live::Sender;
-use wq_plan::{Plan, Serving, Team, queue_all, queue_item, run_team, stop};
+use wq_plan::Plan;
 use wq_pool_plan::{Raced, run_teams};
+use wq_race::{Serving, Team, queue_all, queue_item, run_team, stop};
 
 /// How often it is looked whether the worker has begun an item.
 const LOOKS: u32 = 20_000_000;

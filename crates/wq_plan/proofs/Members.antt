@@ -1,6 +1,7 @@
 -- The members of a value that was read.
+use Rattle.std.specs.Prelude.{String}
 use Rattle.std.specs.declared.alloc.Global.{Global}
-use Rattle.wq_plan.proofs.Common.{◌≡◌, refl, suc, List, [], ◌∷◌, length, String, ap}
+use Rattle.std.proofs.Common.{◌≡◌, refl, suc, List, [], ◌∷◌, length, ap}
 use Rattle.serde_json.specs.View.{members_view}
 use Rattle.serde_json.specs.declared.value.Value.{Value}
 use Rattle.wq_plan.specs.PlanText.{member_count}

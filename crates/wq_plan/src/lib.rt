@@ -1,20 +1,8 @@
-//! A race of live threads on one queue: senders that each queue items of their own, and one worker that serves.
+//! Plans of races by live threads: how large one may be, and how its text is read.
 #![tactic(auto)]
 
-mod idle;
-mod outcome;
 mod plan;
 mod plan_text;
-mod race;
-mod team;
-mod threads;
 
-pub use idle::Idle;
-pub use outcome::{Outcome, enter, enter_all, is_balanced, queued_by};
 pub use plan::Plan;
 pub use plan_text::{PlanError, read_plan};
-pub use race::{
-    RaceError, Serves, Serving, queue_all, queue_item, queue_stop, run_plan, run_team, stop,
-};
-pub use team::Team;
-pub use threads::{join_wanted, keep_handle};

@@ -17,8 +17,8 @@ use Rattle.wq_ledger.specs.declared.balance.Unbalanced.TheVariants.{Saturated}
 use Rattle.wq_ledger.specs.declared.totals.Totals.{Totals}
 use Rattle.wq_ledger.specs.Balance.{Balances, IsUnbalanced}
 use Rattle.wq_ledger.proofs.Pushes.{is_queued_below, below_more, below_none, below_all}
-use Rattle.wq_plan.proofs.Pushed.{IsShared, items_pushed}
-use Rattle.wq_plan.proofs.Whole.{queued_own}
+use Rattle.wq_race.proofs.Pushed.{IsShared, items_pushed}
+use Rattle.wq_race.proofs.Whole.{queued_own}
 use Rattle.wq_pool_plan.specs.Outcome.{QueueRun, IsQueueRun, accepted_items, ended_items, IsBalanced, IsFaulty, TellsRun, IsOutcomeOf}
 use Rattle.wq_pool_plan.proofs.Counted.{all_few, counts_on, spare}
 

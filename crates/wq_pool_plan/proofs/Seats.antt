@@ -1,7 +1,7 @@
 -- Groups of senders, and the seats of one queue more.
 use Rattle.wq_pool_plan.proofs.Common.{◌≡◌, ℕ, ◌+◌, ◌<◌, List, [], ◌∷◌, ◌++◌, length, get_or, sym, ap, ◌∙◌, subst, arith, length-append, each_more, Known}
 use Rattle.wq_pool_plan.proofs.Common.{new_sender, get_or-new_senders, WorkerState, Idle, Plan, IsLayoutOf, IsNewTeam, Group, Teams, AreDealt, AreTeams}
-use Rattle.wq_plan.specs.declared.team.Team.{Team}
+use Rattle.wq_race.specs.declared.team.Team.{Team}
 use Rattle.wq_pool_plan.proofs.Places.{both_more}
 
 -- the first m of the groups were turned

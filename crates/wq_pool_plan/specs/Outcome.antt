@@ -19,12 +19,12 @@ use Rattle.wq_ledger.specs.declared.balance.Unbalanced.TheVariants.{Saturated}
 use Rattle.wq_ledger.specs.Book.{BookState, IsLedgerOf}
 use Rattle.wq_ledger.specs.Balance.{HaveOne, Balances, IsUnbalanced}
 use Rattle.wq_worker.specs.State.{items_among}
-use Rattle.wq_plan.specs.declared.outcome.Outcome.{Outcome}
 use Rattle.wq_plan.specs.declared.plan.Plan.{Plan}
-use Rattle.wq_plan.specs.Outcome.{HasHeard, IsTold, ledger_of}
 use Rattle.wq_plan.specs.Plan.{IsLayoutOf}
-use Rattle.wq_plan.specs.Race.{items_at}
-use Rattle.wq_plan.specs.Sends.{SendsAll}
+use Rattle.wq_race.specs.declared.outcome.Outcome.{Outcome}
+use Rattle.wq_race.specs.Outcome.{HasHeard, IsTold, ledger_of}
+use Rattle.wq_race.specs.Race.{items_at}
+use Rattle.wq_race.specs.Sends.{SendsAll}
 
 -- A book that met these senders and the program's, and in the end was asked whether the ledgers of all of them, one each,
 -- balance: what it answered.

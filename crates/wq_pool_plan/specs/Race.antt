@@ -6,7 +6,7 @@ use Rattle.wq_words.specs.Seen.{own}
 use Rattle.wq_live.specs.Known.{Known, new_sender}
 use Rattle.wq_plan.specs.declared.plan.Plan.{Plan}
 use Rattle.wq_plan.specs.Plan.{IsLayoutOf}
-use Rattle.wq_plan.specs.Race.{HasQueuedStop, AllQueued, IsOfStop, IsQueuer}
+use Rattle.wq_race.specs.Race.{HasQueuedStop, AllQueued, IsOfStop, IsQueuer}
 use Rattle.wq_ready.specs.Known.{Identity, IsCallerOf}
 use Rattle.wq_turn.specs.declared.worker_id.WorkerId.{WorkerId}
 use Rattle.wq_pool.specs.Known.{PoolState}

@@ -2,9 +2,9 @@
 use Rattle.std.specs.Prelude.{◌≡◌, ℕ, List, take}
 use Rattle.wq_plan.specs.declared.plan.Plan.{Plan}
 use Rattle.wq_plan.specs.declared.plan_text.PlanError.{PlanError}
-use Rattle.wq_plan.specs.declared.outcome.Outcome.{Outcome}
 use Rattle.wq_plan.specs.PlanText.{SpellsPlan, IsNoPlan}
-use Rattle.wq_plan.specs.Outcome.{outcome_line, IsWhole, TellsRace}
+use Rattle.wq_race.specs.declared.outcome.Outcome.{Outcome}
+use Rattle.wq_race.specs.Outcome.{outcome_line, IsWhole, TellsRace}
 use Rattle.wq_pool_plan.specs.Race.{IsLone}
 use Rattle.wq_pool_plan.specs.Outcome.{TellsPlan}
 use Rattle.wq_subcommand.specs.declared.failure.Failure.{Failure}

@@ -2,9 +2,9 @@
 use Rattle.std.specs.Prelude.{◌≡◌, ℕ, ◌+◌, ◌<◌, List, [], ◌∷◌, ◌++◌, length, slice_index_or}
 use Rattle.wq_live.specs.Known.{Known, new_sender}
 use Rattle.wq_worker.specs.State.{WorkerState}
-use Rattle.wq_plan.specs.declared.idle.Idle.{Idle}
 use Rattle.wq_plan.specs.declared.plan.Plan.{Plan}
 use Rattle.wq_plan.specs.Plan.{IsLayoutOf}
+use Rattle.wq_race.specs.declared.idle.Idle.{Idle}
 use Rattle.wq_pool_plan.specs.declared.teams.Group.{Group}
 use Rattle.wq_pool_plan.specs.declared.teams.Teams.{Teams}
 

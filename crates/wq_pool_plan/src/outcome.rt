@@ -3,7 +3,7 @@ ghost use Rattle.std.specs.Prelude.{◌≡◌, ◌+◌, ◌^◌, ◌<◌, ◌≤
 ghost use Rattle.wq_turn.specs.declared.worker_id.WorkerId.{WorkerId};
 ghost use Rattle.wq_turn.specs.Finished.{IsFinished};
 ghost use Rattle.wq_pool.specs.Finished.{AreFinished};
-ghost use Rattle.wq_plan.specs.Outcome.{HasHeard, AllKnown};
+ghost use Rattle.wq_race.specs.Outcome.{HasHeard, AllKnown};
 ghost use Rattle.wq_pool_plan.specs.Race.{IsSent, AllSent};
 ghost use Rattle.wq_pool_plan.specs.Outcome.{AnswersBalance, QueueRun, IsQueueRun, TellsRun, TellsRuns, IsOutcomeOf, AreBoth};
 
@@ -12,8 +12,9 @@ use std::alloc::{AllocError, Global};
 use std::sync::Wait;
 use std::thread::yield_now;
 use wq_live::Sender;
-use wq_plan::{Idle, Outcome, Plan, RaceError, enter, enter_all, queued_by};
+use wq_plan::Plan;
 use wq_pool::{Pool, PoolFault};
+use wq_race::{Idle, Outcome, RaceError, enter, enter_all, queued_by};
 use wq_worker::{Book, Totals, Unbalanced};
 
 /// Takes a pool apart, when it has run: the works and the books, by queue.

@@ -2,8 +2,8 @@
 ghost use Rattle.std.specs.Prelude.{◌≡◌, ◌+◌, ◌<◌, ◌≤◌, map, length, All, IfSome, IfOk};
 ghost use Rattle.wq_ready.specs.Known.{IsCallerOf};
 ghost use Rattle.wq_turn.specs.WorkerId.{worker_id};
-ghost use Rattle.wq_plan.specs.Race.{AllQueued};
-ghost use Rattle.wq_plan.specs.Outcome.{IsWhole, TellsRace};
+ghost use Rattle.wq_race.specs.Race.{AllQueued};
+ghost use Rattle.wq_race.specs.Outcome.{IsWhole, TellsRace};
 ghost use Rattle.wq_pool_plan.specs.Race.{IsLone, AreCallersOf, IsGroupFor, MayRun, AreGroupThreads, AllGroupsQueued, AllStopped, HaveRun};
 ghost use Rattle.wq_pool_plan.specs.Outcome.{TellsPlan};
 
@@ -15,8 +15,9 @@ use std::snapshot::Snapshot;
 use std::sync::Wait;
 use std::thread::{JoinHandle, Promise, PromisedHandle, Scope, Threads, scope, scope_env};
 use wq_live::Sender;
-use wq_plan::{Idle, Outcome, Plan, RaceError, join_wanted, keep_handle, run_plan};
+use wq_plan::Plan;
 use wq_pool::{Caller, NoGate, Pool, PoolError, Served};
+use wq_race::{Idle, Outcome, RaceError, join_wanted, keep_handle, run_plan};
 
 /// A thread gives back the group that it was given, whose senders have each queued their own items: so many.
 #[derive(Drop)]

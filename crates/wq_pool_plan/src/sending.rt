@@ -1,14 +1,14 @@
 //! What the threads of the senders do.
 ghost use Rattle.std.specs.Prelude.{◌+◌, ◌*◌, ◌<◌, ◌≤◌, [], ◌∷◌, length};
 ghost use Rattle.wq_ready.specs.Known.{IsCallerOf};
-ghost use Rattle.wq_plan.specs.Race.{items_at, HasQueued, AllQueued};
+ghost use Rattle.wq_race.specs.Race.{items_at, HasQueued, AllQueued};
 ghost use Rattle.wq_pool_plan.specs.Race.{IsGroupFor, AllStopped};
 
 use crate::teams::Group;
 use std::sync::Wait;
 use wq_live::{Answer, Sender};
-use wq_plan::{Idle, queue_stop};
 use wq_pool::{Caller, Pool};
+use wq_race::{Idle, queue_stop};
 
 // Does what the answer of a queueing on this queue asks for.
 fn wake<R: Wait>(rt: &R, pool: &Pool<Idle>, caller: &mut Caller, queue: u32, answer: Answer)

@@ -1,12 +1,13 @@
 //! The seats of a plan's queues.
 ghost use Rattle.std.specs.Prelude.{◌≡◌, ◌+◌, ◌<◌, [], length, All, OnOk, IfOk};
-ghost use Rattle.wq_plan.specs.Team.{IsNewTeam};
+ghost use Rattle.wq_race.specs.Team.{IsNewTeam};
 ghost use Rattle.wq_pool_plan.specs.Teams.{AreDealt, AreTurned, AreTeams};
 
 use std::alloc::{AllocError, Global};
 use wq_live::{BuildError, Sender};
-use wq_plan::{Idle, Plan, Team};
+use wq_plan::Plan;
 use wq_pool::Served;
+use wq_race::{Idle, Team};
 
 /// A row of senders: those of one number, by queue, until their threads have ended, and in a `Raced` those of one queue, by number.
 #[derive(Drop)]

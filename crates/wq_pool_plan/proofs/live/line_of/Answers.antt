@@ -1,5 +1,5 @@
 use Rattle.std.proofs.Common.{◌∙◌, ◌++◌, ap, List, ℕ}
-use Rattle.wq_plan.specs.Outcome.{outcome_line}
+use Rattle.wq_race.specs.Outcome.{outcome_line}
 use Rattle.wq_pool_plan.proofs.live.line_of.Goals as goal
 
 pub returns-clause-line : goal.returns-clause-line

@@ -1,6 +1,6 @@
 use Rattle.wq_pool_plan.proofs.Common.{ℕ, ◌<◌, List, length, get_or, arith, sym, ap, ◌∙◌, subst, Event, each_written, rest_written, whole_items, Known, IsKnown}
 use Rattle.wq_pool_plan.proofs.Common.{AllKnown, heard_still, heard_one, heard_on}
-use Rattle.wq_plan.proofs.Meeting.{known_one, known_more}
+use Rattle.wq_race.proofs.Meeting.{known_one, known_more}
 use Rattle.wq_pool_plan.proofs.outcome.meet_all.Goals as goal
 
 pub loop-sender-init : goal.loop-sender-init

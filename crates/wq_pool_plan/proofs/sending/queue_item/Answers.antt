@@ -1,4 +1,4 @@
-use Rattle.wq_plan.proofs.Queueing.{queued_one}
+use Rattle.wq_race.proofs.Queueing.{queued_one}
 use Rattle.wq_pool_plan.proofs.sending.queue_item.Goals as goal
 
 pub returns-clause-queued : goal.returns-clause-queued

@@ -1,4 +1,4 @@
-use Rattle.wq_plan.proofs.Common.{All-push}
+use Rattle.wq_race.proofs.Common.{All-push}
 use Rattle.wq_pool_plan.proofs.Common.{◌≡◌, [], ◌∷◌, length, sym, ap, subst, arith, length-append, All, Group}
 use Rattle.wq_pool_plan.proofs.teams.empty_groups.Goals as goal
 
