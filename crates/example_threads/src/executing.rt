@@ -43,9 +43,7 @@ fn execute<R: Wait>(rt: &R, owner: &mut Owner) -> bool
         if owner.waiting() == 0 {
             return is_stopped;
         }
-        if execute_one(owner) == stop {
-            is_stopped = true;
-        }
+        is_stopped |= execute_one(owner) == stop;
     }
     unreachable!()
 }
@@ -86,7 +84,6 @@ pub fn execute_all<R: Wait>(rt: &R, mut owner: Owner, parker: &Parker) -> Owner
     serve(rt, &mut owner, parker);
     owner.close();
     execute(rt, &mut owner);
-    owner.legal();
     if owner.done().is_none() {
         unreachable!()
     }

@@ -8,7 +8,7 @@ ghost use Rattle.example_threads.specs.Met.{IsHistoryOf, QueuedAsTold};
 
 use crate::executing::execute_all;
 use crate::queueing::{Both, Told, queue_both, queue_own, stop};
-use crate::waking::{Waker, WakesOn};
+use crate::waking::{Waker, WakesOn, parker_and_waker};
 use crossbeam_utils::sync::Parker;
 use std::alloc::Global;
 use std::sync::Wait;
@@ -163,11 +163,7 @@ pub fn run<R: Threads + Wait + Sync>(
     ensures layout { IfOk result (λ met. met.owner.layout ≡ layout) }
     ensures history { IfOk result (λ met. IsHistoryOf met.owner.layout met.owner.seen met) }
 {
-    let parker = Parker::new(alloc)?;
-    let waker = Waker {
-        unparker: parker.unparker().clone()?,
-        on: WakesOn::Rest,
-    };
+    let (parker, waker) = parker_and_waker(alloc, WakesOn::Rest)?;
     let (owner, mut senders) = build(alloc, layout)?;
     let Some(third) = senders.pop() else {
         unreachable!()

@@ -12,7 +12,7 @@ ghost use Rattle.example_threads.specs.Met.{TellsOwn, QueuedAsTold};
 
 use crate::one_worker::Runs;
 use crate::queueing::{Both, Told, queue_both, stop};
-use crate::waking::{Waker, WakesOn};
+use crate::waking::{Waker, WakesOn, parker_and_waker};
 use crossbeam_utils::sync::Parker;
 use std::alloc::{AllocError, Global};
 use std::sync::Wait;
@@ -211,11 +211,7 @@ pub fn run_served<R: Threads + Wait + Sync>(
     ensures nothing_else { IfOk result (λ r. accepted (own owner_seat r.book.seen) ≡ []) }
     ensures balance { IfOk result (λ r. r.totals.queued + r.totals.chained ≡ r.totals.executed) }
 {
-    let parker = Parker::new(alloc)?;
-    let waker = Waker {
-        unparker: parker.unparker().clone()?,
-        on: WakesOn::EmptyList,
-    };
+    let (parker, waker) = parker_and_waker(alloc, WakesOn::EmptyList)?;
     let work = Runs { ran: Trail::new() };
     let (worker, mut senders) = Worker::build(alloc, layout, work, 1)?;
     let Some(second) = senders.pop() else {

@@ -1,5 +1,6 @@
 //! How a sender wakes who executes what it queued.
-use crossbeam_utils::sync::Unparker;
+use crossbeam_utils::sync::{Parker, Unparker};
+use std::alloc::{AllocError, Global};
 use wq_live::Answer;
 
 /// Which answer of a queueing wakes.
@@ -16,6 +17,13 @@ pub(crate) enum WakesOn {
 pub(crate) struct Waker {
     pub(crate) unparker: Unparker,
     pub(crate) on: WakesOn,
+}
+
+/// A parker for who executes, and a waker that unparks it.
+pub(crate) fn parker_and_waker(alloc: Global, on: WakesOn) -> Result<(Parker, Waker), AllocError> {
+    let parker = Parker::new(alloc)?;
+    let unparker = parker.unparker().clone()?;
+    Ok((parker, Waker { unparker, on }))
 }
 
 impl Waker {
