@@ -11,6 +11,17 @@ use std::thread::{Threads, join};
 use wq_value_pool::{Caller, ValuePool};
 use wq_values::ValueSender;
 
+// All that a list holds, in its order.
+pub(crate) fn all_of<T: Drop, const N: usize>(list: Vec<T>) -> [T; N]
+    requires { length list.items ≡ N }
+    ensures { result ≡ list.items }
+{
+    let Ok(all) = <[T; N]>::try_from(list) else {
+        unreachable!()
+    };
+    all
+}
+
 // One of the callers that are left.
 fn caller_of(pool: &ValuePool<Line, Writer>, callers: &mut Vec<Caller>) -> Caller
     requires some { 0 < length callers.old.items }
@@ -49,14 +60,8 @@ pub(crate) fn clients_of(
         × IsCallerOf pool.now.ready result.last.caller }
     ensures all { All (IsCallerOf pool.now.ready) callers.new.items }
 {
-    let (Ok(access), Ok(errors)) = (
-        <[ValueSender<Line>; 3]>::try_from(access),
-        <[ValueSender<Line>; 3]>::try_from(errors),
-    ) else {
-        unreachable!()
-    };
-    let [one, two, three] = access;
-    let [first, second, last] = errors;
+    let [one, two, three] = all_of::<ValueSender<Line>, 3>(access);
+    let [first, second, last] = all_of::<ValueSender<Line>, 3>(errors);
     Clients {
         first: Client {
             access: one,

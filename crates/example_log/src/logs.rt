@@ -12,7 +12,7 @@ ghost use Rattle.example_log.specs.Sent.{SendsUnlessTurned, AreNewClients, HaveS
 ghost use Rattle.example_log.specs.Writing.{WritesInStep};
 ghost use Rattle.example_log.specs.Written.{HasLines};
 
-use crate::clients::{Clients, SentAndStopped, clients_of, send_both};
+use crate::clients::{Clients, SentAndStopped, all_of, clients_of, send_both};
 use crate::ending::{Written, ended};
 use crate::error::LogError;
 use crate::message::{Line, Message};
@@ -106,6 +106,16 @@ fn serve<R: Threads + Wait + Sync>(
     Ok(sent)
 }
 
+// Why a pool is given up that could not be taken apart. One of which something is left goes on instead.
+fn given_up(fault: ValuePoolFault<Line, Writer>) -> LogError {
+    match fault {
+        ValuePoolFault::Out { queue, .. } | ValuePoolFault::Unfinished { queue, .. } => {
+            LogError::Out { queue }
+        }
+        ValuePoolFault::Memory { .. } => LogError::Memory,
+    }
+}
+
 // Takes the pool apart. Where something is left of a queue it goes on.
 fn finish<R: Wait>(rt: &R, pool: ValuePool<Line, Writer>) -> Result<Vec<Finished>, LogError>
     ensures finished { IfOk result (λ all. AreFinishedBy (λ b. b.book) (λ work b. HasRunPairs (λ w. w.ran) b.brought work b.book)
@@ -119,8 +129,7 @@ fn finish<R: Wait>(rt: &R, pool: ValuePool<Line, Writer>) -> Result<Vec<Finished
         match pool.finish(LINES) {
             Ok(all) => return Ok(all),
             Err(ValuePoolFault::Unfinished { pool: same, .. }) => pool = same,
-            Err(ValuePoolFault::Out { queue, .. }) => return Err(LogError::Out { queue }),
-            Err(ValuePoolFault::Memory { .. }) => return Err(LogError::Memory),
+            Err(fault) => return Err(given_up(fault)),
         }
     }
     unreachable!()
@@ -131,13 +140,7 @@ fn both_of(finished: Vec<Finished>) -> (Finished, Finished)
     requires two { length finished.items ≡ 2 }
     ensures both { finished.items ≡ result.0 ∷ result.1 ∷ [] }
 {
-    let mut finished = finished.into_iter();
-    let Some(one) = finished.next() else {
-        unreachable!()
-    };
-    let Some(two) = finished.next() else {
-        unreachable!()
-    };
+    let [one, two] = all_of::<Finished, 2>(finished);
     (one, two)
 }
 
