@@ -20,15 +20,26 @@ use crate::writer::Writer;
 use std::alloc::Global;
 use std::sync::Wait;
 use std::thread::{Threads, join};
+use wq_pool::PoolFaultOf;
 use wq_value_pool::{Caller, NoGate, ValuePool, ValuePoolFault, ValueServed, nothing_is_queued};
 use wq_value_worker::{ValueBook, ValueWorker};
 use wq_words::Layout;
+use wq_worker::Station;
 
 // So many lines of each log are written at a time, where some are left at the end.
 const LINES: u32 = 1024;
 
 // The work and the book of a log whose queue was taken apart.
 type Finished = (Writer, ValueBook<Line>);
+
+// A log's worker, as its pool takes it.
+fn station_of(worker: ValueWorker<Line, Writer>) -> ValueServed<Line, Writer>
+    requires idle { ¬ IsRunning worker.worker.seen }
+    requires open { ¬ IsShut worker.worker.seen }
+    ensures { result ≡ worker }
+{
+    ValueServed::new(worker)
+}
 
 // A pool of the two logs' queues, and a caller for each thread: two that work, and three that queue.
 fn pool_of(
@@ -42,8 +53,7 @@ fn pool_of(
     ensures states { IfOk result (λ r. r.0.states ≡ access ∷ errors ∷ []) }
     ensures callers { IfOk result (λ r. All (IsCallerOf r.0.ready) r.1.items × (length r.1.items ≡ 5)) }
 {
-    let Ok(queues) = Vec::from_array(alloc, [ValueServed::new(access), ValueServed::new(errors)])
-    else {
+    let Ok(queues) = Vec::from_array(alloc, [station_of(access), station_of(errors)]) else {
         return Err(LogError::Memory);
     };
     match ValuePool::new(alloc, queues, 5) {
@@ -107,12 +117,12 @@ fn serve<R: Threads + Wait + Sync>(
 }
 
 // Why a pool is given up that could not be taken apart. One of which something is left goes on instead.
-fn given_up(fault: ValuePoolFault<Line, Writer>) -> LogError {
+fn given_up<K: Station + Drop>(fault: PoolFaultOf<K>) -> LogError {
     match fault {
-        ValuePoolFault::Out { queue, .. } | ValuePoolFault::Unfinished { queue, .. } => {
+        PoolFaultOf::Out { queue, .. } | PoolFaultOf::Unfinished { queue, .. } => {
             LogError::Out { queue }
         }
-        ValuePoolFault::Memory { .. } => LogError::Memory,
+        PoolFaultOf::Memory { .. } => LogError::Memory,
     }
 }
 
