@@ -32,15 +32,6 @@ const LINES: u32 = 1024;
 // The work and the book of a log whose queue was taken apart.
 type Finished = (Writer, ValueBook<Line>);
 
-// A log's worker, as its pool takes it.
-fn station_of(worker: ValueWorker<Line, Writer>) -> ValueServed<Line, Writer>
-    requires idle { ¬ IsRunning worker.worker.seen }
-    requires open { ¬ IsShut worker.worker.seen }
-    ensures { result ≡ worker }
-{
-    ValueServed::new(worker)
-}
-
 // A pool of the two logs' queues, and a caller for each thread: two that work, and three that queue.
 fn pool_of(
     alloc: Global,
@@ -53,7 +44,8 @@ fn pool_of(
     ensures states { IfOk result (λ r. r.0.states ≡ access ∷ errors ∷ []) }
     ensures callers { IfOk result (λ r. All (IsCallerOf r.0.ready) r.1.items × (length r.1.items ≡ 5)) }
 {
-    let Ok(queues) = Vec::from_array(alloc, [station_of(access), station_of(errors)]) else {
+    let Ok(queues) = Vec::from_array(alloc, [ValueServed::new(access), ValueServed::new(errors)])
+    else {
         return Err(LogError::Memory);
     };
     match ValuePool::new(alloc, queues, 5) {
