@@ -1,4 +1,5 @@
-use Rattle.wq_value_worker.proofs.Common.{[], refl, subst, IsShut, IsClosed, IsRunning, pair_owner, Moves, ValueWorkerState}
+use Rattle.wq_value_worker.proofs.Common.{[], ap, refl, ◌∙◌, subst, IsShut, IsClosed, IsRunning, Learnt, owner_of, pair_owner, Moves}
+use Rattle.wq_value_worker.proofs.Common.{ValueWorkerState, owner_in}
 use Rattle.wq_worker.specs.Resting.{HasNoneLeft}
 use Rattle.wq_value_worker.proofs.ValueState.{value_state_of, value_fit_owner, value_moves_owner}
 use Rattle.wq_worker.proofs.Phase.{open_still, unclosed_still, phase_grown}
@@ -11,33 +12,29 @@ invariant_of-self g c =
     value_fit_owner [] 0 0 c.self.inside.pair c.meet.new.self e.owner e.sender _ _ refl c.self.invariant
     (record { learnt = e.learnt; handed_same = e.handed })
 
-pub returns-clause-worker : goal.returns-clause-worker
-returns-clause-worker g c =
-    let i = c.self.inside in let e = c.meet.ensures in let q = c.meet.new.self in
-    let w : ValueWorkerState g.row.V.Denot g.row.W.Denot = value_state_of q i.tries i.left.pairs i.work in
-    subst (λ (z : ValueWorkerState g.row.V.Denot g.row.W.Denot). Moves [] 0 z.worker w.worker) c.self.view_is
-    (value_moves_owner [] 0 0 i.pair q e.owner e.sender i.tries i.left.pairs i.work)
-
-pub returns-clause-open : goal.returns-clause-open
-returns-clause-open g c =
-    let o = c.self.inside.pair.known.seen in let q = c.meet.new.self.known.seen in
-    subst (λ (z : ValueWorkerState g.row.V.Denot g.row.W.Denot). ¬ IsShut z.worker.seen → ¬ IsShut q) c.self.view_is
-    (open_still o q (phase_grown [] 0 o q c.meet.ensures.owner.grows refl))
-
-pub returns-clause-unclosed : goal.returns-clause-unclosed
-returns-clause-unclosed g c =
-    let o = c.self.inside.pair.known.seen in let q = c.meet.new.self.known.seen in
-    subst (λ (z : ValueWorkerState g.row.V.Denot g.row.W.Denot). ¬ IsClosed z.worker.seen → ¬ IsClosed q) c.self.view_is
-    (unclosed_still o q (phase_grown [] 0 o q c.meet.ensures.owner.grows refl))
-
-pub returns-clause-idle : goal.returns-clause-idle
-returns-clause-idle g c =
-    let o = c.self.inside.pair.known.seen in let q = c.meet.new.self.known.seen in
-    subst (λ (z : ValueWorkerState g.row.V.Denot g.row.W.Denot). ¬ IsRunning z.worker.seen → ¬ IsRunning q) c.self.view_is
-    (idle_still 0 o q c.meet.ensures.owner.grows)
-
-pub returns-clause-none : goal.returns-clause-none
-returns-clause-none g c =
-    let o = c.self.inside.pair.known in let q = c.meet.new.self.known in let e = c.meet.ensures.owner in
-    subst (λ (z : ValueWorkerState g.row.V.Denot g.row.W.Denot). HasNoneLeft z.worker.seen → HasNoneLeft q.seen) c.self.view_is
-    (none_left_still 0 (pair_owner o) (pair_owner q) refl e e.grows)
+pub returns : goal.returns
+returns g c =
+    let i = c.self.inside in let e = c.meet.ensures in let q = c.meet.new.self in let is = c.self.view_is in
+    let was = i.pair.known.seen in let now = q.known.seen in let phase = phase_grown [] 0 was now e.owner.grows refl in
+    let w : ValueWorkerState g.row.V.Denot g.row.W.Denot = value_state_of q i.tries i.left.pairs i.work in record {
+      work = (
+        ap (λ (z : ValueWorkerState g.row.V.Denot g.row.W.Denot). z.worker.work) is,
+        ap (λ (z : ValueWorkerState g.row.V.Denot g.row.W.Denot). z.worker.unqueued) is,
+      );
+      pairs = ap (λ (z : ValueWorkerState g.row.V.Denot g.row.W.Denot). z.unqueued) is;
+      worker = subst (λ (z : ValueWorkerState g.row.V.Denot g.row.W.Denot). Moves [] 0 z.worker w.worker) is
+          (value_moves_owner [] 0 0 i.pair q e.owner e.sender i.tries i.left.pairs i.work);
+      learnt = (subst (λ (z : ValueWorkerState g.row.V.Denot g.row.W.Denot). Learnt (owner_in z) (owner_of q)) is e.learnt, e.theirs);
+      sender = e.that;
+      own = e.own;
+      own_values = e.own_values;
+      layout = e.layout ∙ ap (λ (z : ValueWorkerState g.row.V.Denot g.row.W.Denot). z.worker.layout) is;
+      both = e.both;
+      brought = e.brought;
+      «open» = subst (λ (z : ValueWorkerState g.row.V.Denot g.row.W.Denot). ¬ IsShut z.worker.seen → ¬ IsShut now) is (open_still was now phase);
+      unclosed = subst (λ (z : ValueWorkerState g.row.V.Denot g.row.W.Denot). ¬ IsClosed z.worker.seen → ¬ IsClosed now) is (unclosed_still was now phase);
+      idle = subst (λ (z : ValueWorkerState g.row.V.Denot g.row.W.Denot). ¬ IsRunning z.worker.seen → ¬ IsRunning now) is
+          (idle_still 0 was now e.owner.grows);
+      none = subst (λ (z : ValueWorkerState g.row.V.Denot g.row.W.Denot). HasNoneLeft z.worker.seen → HasNoneLeft now) is
+          (none_left_still 0 (pair_owner i.pair.known) (pair_owner q.known) refl e.owner e.owner.grows);
+    }

@@ -1,5 +1,5 @@
-use Rattle.wq_value_worker.proofs.Common.{ℕ, List, sym, ap, ◌∙◌, handed_in, owner_of, pairs_of}
-use Rattle.wq_worker.proofs.Joined.{joined_begun, joined_idle, joined_open}
+use Rattle.wq_value_worker.proofs.Common.{ℕ, List, refl, sym, ap, ◌∙◌, handed_in, owner_of, pairs_of, numbers_in}
+use Rattle.wq_worker.proofs.Joined.{joined_grows, joined_begun, joined_idle, joined_open}
 use Rattle.wq_value_worker.proofs.value_worker.ValueWorker.new.Goals as goal
 
 pub invariant_of-result : goal.invariant_of-result
@@ -13,8 +13,15 @@ invariant_of-result g c =
           (sym (joined_begun c.args.owner.known p.known e.owner c.requires.unbegun));
     }
 
-pub returns-clause-idle : goal.returns-clause-idle
-returns-clause-idle g c = joined_idle c.args.owner.known c.join-pair.result.known c.join-pair.ensures.owner c.requires.unbegun
-
-pub returns-clause-open : goal.returns-clause-open
-returns-clause-open g c = joined_open c.args.owner.known c.join-pair.result.known c.join-pair.ensures.owner
+pub returns : goal.returns
+returns g c =
+    let e = c.join-pair.ensures in let p = c.join-pair.result in let o = c.args.owner.known in let none = c.new.ensures.none in record {
+      parts = (e.owner.same.queue_is, e.owner.same.layout_is, e.sender.same.number_is, refl, ap (λ ps. numbers_in ps) none, refl);
+      unqueued = none;
+      owner = joined_grows o p.known e.owner;
+      sender = e.sender.grows;
+      learnt = e.learnt;
+      legal = e.owner.legal;
+      idle = joined_idle o p.known e.owner c.requires.unbegun;
+      «open» = joined_open o p.known e.owner;
+    }
