@@ -3,6 +3,7 @@ ghost use Rattle.std.specs.Prelude.{◌≡◌, true, ◌↔◌, ◌<◌, [], ◌
 ghost use Rattle.std.specs.Option.{option_to_list};
 
 use std::marker::Model;
+use std::mem::swap;
 
 /// The items that a run asks to be queued next, each with its value, in this order: at most four. A pair whose number is no item
 /// is given back to the work, as one whose item is pending.
@@ -49,16 +50,18 @@ impl<V: Drop> ValueFollow<V> {
         ensures full { OnErr result (self.new ≡ self.old) }
         ensures returned { IfErr result (λ v. v ≡ value) }
     {
-        if self.first.is_none() {
-            self.first = Some((item, value));
-        } else if self.second.is_none() {
-            self.second = Some((item, value));
-        } else if self.third.is_none() {
-            self.third = Some((item, value));
-        } else if self.fourth.is_none() {
-            self.fourth = Some((item, value));
-        } else {
+        if self.fourth.is_some() {
             return Err(value);
+        }
+        let mut pair = Some((item, value));
+        if self.first.is_none() {
+            swap(&mut self.first, &mut pair);
+        } else if self.second.is_none() {
+            swap(&mut self.second, &mut pair);
+        } else if self.third.is_none() {
+            swap(&mut self.third, &mut pair);
+        } else {
+            swap(&mut self.fourth, &mut pair);
         }
         Ok(())
     }
@@ -96,9 +99,9 @@ impl<V: Drop> ValueFollow<V> {
         ensures room { IfSome result (λ _. length self.new.pairs < 4) }
     {
         let next = self.first.take();
-        self.first = self.second.take();
-        self.second = self.third.take();
-        self.third = self.fourth.take();
+        swap(&mut self.first, &mut self.second);
+        swap(&mut self.second, &mut self.third);
+        swap(&mut self.third, &mut self.fourth);
         next
     }
 
@@ -107,9 +110,9 @@ impl<V: Drop> ValueFollow<V> {
         requires room { length self.old.pairs < 4 }
         ensures first { self.new.pairs ≡ (item, value) ∷ self.old.pairs }
     {
-        self.fourth = self.third.take();
-        self.third = self.second.take();
-        self.second = self.first.take();
+        swap(&mut self.fourth, &mut self.third);
+        swap(&mut self.third, &mut self.second);
+        swap(&mut self.second, &mut self.first);
         self.first = Some((item, value));
     }
 }
