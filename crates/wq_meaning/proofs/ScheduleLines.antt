@@ -1,11 +1,30 @@
 -- The output of a schedule, a turn further, and that it is one.
-use Rattle.wq_meaning.proofs.Common.{◌≡◌, inl, inr, ℕ, ◌+◌, ◌<◌, List, [], ◌∷◌, ◌++◌, length, drop, get_or, refl, sym, ap, ◌∙◌, subst, append_assoc}
+use Rattle.wq_meaning.proofs.Common.{◌≡◌, ◌≢◌, inl, inr, ℕ, ◌+◌, ◌<◌, List, [], ◌∷◌, ◌++◌, length, drop, get_or, refl, sym, ap, ◌∙◌, subst, append_assoc}
 use Rattle.wq_meaning.proofs.Common.{drop-cons, add-one, append-nil, Layout, Turn, Gives, AllGive, GivesBehind, IsScheduleOutput, HasOneOutput, ending}
+use Rattle.std.proofs.Common.{rules}
 use Rattle.std.specs.Prelude.{codes}
-use Rattle.wq_core.specs.Machine.{Machine, opening, reply_to}
+use Rattle.wq_core.specs.Machine.{Machine, opening, reply_to, IsEnabled, after}
+use Rattle.wq_core.specs.Made.{IsPlaced}
+use Rattle.wq_core.specs.declared.step.Seat.{Seat}
+use Rattle.wq_core.specs.declared.step.Step.{Step}
+use Rattle.wq_machine.specs.Refusal.{IsRefused}
+use Rattle.wq_machine.specs.declared.refusal.StepError.{StepError}
+use Rattle.wq_machine.specs.declared.refusal.StepError.TheVariants as refusal
 use Rattle.wq_meaning.specs.Replies.{made_text}
 use Rattle.wq_meaning.specs.Report.{line}
 use Rattle.wq_meaning.specs.ScheduleHistory.{Passes}
+
+-- a step of a seat and of numbers of the queue that is refused, and not for want of memory, is not enabled
+pub not_enabled : (m : Machine) (seat : Seat) (step : Step) (why : StepError) → IsPlaced m.layout seat step → IsRefused m seat step why
+    → why ≢ refusal.Memory → ¬ IsEnabled m seat step
+not_enabled m seat step refusal.NoSeat placed refused room = absurd (refused placed.0)
+not_enabled m seat step refusal.NoItem placed refused room = absurd (refused.1 placed.1)
+not_enabled m seat step refusal.NotEnabled placed refused room = refused.1
+not_enabled m seat step refusal.Memory placed refused room = absurd (room refl)
+
+-- a step leaves the layout
+pub same_layout : (m : Machine) (seat : Seat) (step : Step) → (after m seat step).layout ≡ m.layout
+same_layout m seat step = search rules
 
 -- whatever the turns that are left give, all turns give it behind what was written
 abbrev pub Continues : Layout → List Turn → Machine → List Turn → List ℕ → Type 0

@@ -1,5 +1,5 @@
 //! What a report says.
-ghost use Rattle.std.specs.Prelude.{◌≡◌, ◌++◌, OnOk, string_bytes};
+ghost use Rattle.std.specs.Prelude.{◌≡◌, ◌++◌, OnOk, string_bytes, codes};
 ghost use Rattle.wq_meaning.specs.Report.{count_line, report_text};
 
 use std::alloc::AllocError;
@@ -40,9 +40,16 @@ impl Counts {
         write_count("chained", self.chained, out)?;
         write_count("executed", self.executed, out)?;
         write_count("busy", self.busy, out)?;
+        self.write_last(out)
+    }
+
+    // Writes the last three of them.
+    fn write_last(self, out: &mut String) -> Result<(), AllocError>
+        ensures { OnOk result (string_bytes out.new ≡ string_bytes out.old
+            ++ (count_line (codes "refused") self.refused ++ count_line (codes "delayed") self.delayed ++ count_line (codes "waiting") self.waiting)) }
+    {
         write_count("refused", self.refused, out)?;
         write_count("delayed", self.delayed, out)?;
-        write_count("waiting", self.waiting, out)?;
-        Ok(())
+        write_count("waiting", self.waiting, out)
     }
 }

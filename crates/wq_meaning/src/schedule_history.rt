@@ -1,27 +1,29 @@
 //! The history that the steps of a schedule make.
-ghost use Rattle.std.specs.Prelude.{◌≡◌, IfOk, OnOk};
-ghost use Rattle.wq_core.specs.Machine.{opening};
+ghost use Rattle.std.specs.Prelude.{◌≡◌, IfOk, OnOk, MatchOption};
+ghost use Rattle.wq_core.specs.Machine.{opening, IsEnabled, after, reply_to};
 ghost use Rattle.wq_core.specs.Made.{IsPlaced};
 ghost use Rattle.wq_meaning.specs.ScheduleHistory.{Passes, AllPass, IsScheduleHistory};
 ghost use Rattle.wq_text.specs.Schedule.{schedule_layout, turns_of};
 ghost use Rattle.wq_words.specs.Legal.{IsLegal};
 
 use std::alloc::{AllocError, Global};
-use wq_core::{Seat, Step};
+use wq_core::{Reply, Seat, Step};
 use wq_machine::{Core, StepError};
 use wq_text::Schedule;
 use wq_words::Event;
 
-/// Gives the machine one step, which it may pass over.
-fn pass_turn(core: &mut Core, seat: Seat, step: Step) -> Result<(), AllocError>
+/// Gives the machine one step, and its reply. None where the machine does not allow it, which changes nothing.
+pub(crate) fn try_step(core: &mut Core, seat: Seat, step: Step) -> Result<Option<Reply>, AllocError>
     requires { IsPlaced core.old.layout seat step }
     ensures same { OnOk result (core.new.layout ≡ core.old.layout) }
     ensures passes { OnOk result (Passes core.old (seat, step) core.new) }
+    ensures tried { IfOk result (λ reply. MatchOption reply ((¬ IsEnabled core.old seat step) × (core.new ≡ core.old))
+        (λ made. IsEnabled core.old seat step × (core.new ≡ after core.old seat step) × (made ≡ reply_to core.old seat step))) }
 {
     match core.step(seat, step) {
-        Ok(_) => Ok(()),
+        Ok(reply) => Ok(Some(reply)),
         Err(StepError::Memory) => Err(AllocError),
-        Err(_) => Ok(()),
+        Err(_) => Ok(None),
     }
 }
 
@@ -32,7 +34,7 @@ fn replayed(alloc: Global, schedule: &Schedule) -> Result<Core, AllocError>
 {
     let mut core = Core::new(alloc, *schedule.layout())?;
     for (seat, step) in schedule.turns() {
-        pass_turn(&mut core, *seat, *step)?;
+        try_step(&mut core, *seat, *step)?;
     }
     Ok(core)
 }

@@ -1,5 +1,6 @@
 //! A schedule's run, from its steps to the bytes of its output.
-ghost use Rattle.std.specs.Prelude.{◌≡◌, ◌++◌, IfOk, OnOk, string_bytes};
+ghost use Rattle.std.specs.Prelude.{◌≡◌, [], ◌++◌, IfOk, OnOk, string_bytes};
+ghost use Rattle.wq_core.specs.Machine.{opening};
 ghost use Rattle.wq_core.specs.Made.{IsPlaced};
 ghost use Rattle.wq_meaning.specs.ScheduleOutput.{ending, GivesBehind, IsScheduleOutput, HasOneOutput};
 ghost use Rattle.wq_text.specs.Schedule.{schedule_layout, turns_of};
@@ -7,9 +8,10 @@ ghost use Rattle.wq_text.specs.Schedule.{schedule_layout, turns_of};
 use crate::error::RunError;
 use crate::lines::{write_line, write_row};
 use crate::replies::write_made;
+use crate::schedule_history::try_step;
 use std::alloc::{AllocError, Global};
 use wq_core::{Seat, Step};
-use wq_machine::{Core, StepError};
+use wq_machine::Core;
 use wq_text::Schedule;
 use wq_words::Layout;
 
@@ -26,10 +28,9 @@ fn make_turn(
     ensures same { OnOk result (core.new.layout ≡ layout.now) }
     ensures gives { OnOk result (GivesBehind core.old (seat, step) core.new (string_bytes out.old) (string_bytes out.new)) }
 {
-    match core.step(seat, step) {
-        Ok(reply) => write_made(layout, step, reply, out),
-        Err(StepError::Memory) => Err(AllocError),
-        Err(_) => write_line("not enabled", out),
+    match try_step(core, seat, step)? {
+        Some(reply) => write_made(layout, step, reply, out),
+        None => write_line("not enabled", out),
     }
 }
 
@@ -42,17 +43,26 @@ fn write_ending(layout: &Layout, core: &Core, out: &mut String) -> Result<(), Al
     write_row(layout, "begun", &core.begun()?, out)
 }
 
+/// Gives the steps of a schedule in turn to the machine of a new queue, and writes the lines of its output.
+fn write_output(core: &mut Core, schedule: &Schedule, out: &mut String) -> Result<(), AllocError>
+    requires new { core.old ≡ opening (schedule_layout schedule.now) }
+    requires empty { string_bytes out.old ≡ [] }
+    ensures { OnOk result (IsScheduleOutput (schedule_layout schedule.now) (turns_of schedule.now) (string_bytes out.new)) }
+{
+    let layout = schedule.layout();
+    for (seat, step) in schedule.turns() {
+        make_turn(core, layout, *seat, *step, out)?;
+    }
+    write_ending(layout, core, out)
+}
+
 /// The output of a schedule, as text.
 fn output_text(alloc: Global, schedule: &Schedule) -> Result<String, AllocError>
     ensures { IfOk result (λ text. IsScheduleOutput (schedule_layout schedule.now) (turns_of schedule.now) (string_bytes text)) }
 {
-    let layout = schedule.layout();
-    let mut core = Core::new(alloc, *layout)?;
+    let mut core = Core::new(alloc, *schedule.layout())?;
     let mut out = String::new(alloc);
-    for (seat, step) in schedule.turns() {
-        make_turn(&mut core, layout, *seat, *step, &mut out)?;
-    }
-    write_ending(layout, &core, &mut out)?;
+    write_output(&mut core, schedule, &mut out)?;
     Ok(out)
 }
 

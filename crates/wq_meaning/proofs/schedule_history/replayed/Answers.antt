@@ -12,16 +12,16 @@ pub loop-seat-preserved : goal.loop-seat-preserved
 loop-seat-preserved c =
     let turns : List Turn = c.args.schedule.now.turns.items in
     let lt : c.loop-seat.seat-index < length turns = omega (arith, ap length c.turns-seat-items.ensures.value) in
-    let P : List Turn → Type 0 = λ ts. Passes c.loop-seat.core (get_or ts c.loop-seat.seat-index (Sender 0, Hold 0)) c.pass_turn.new.core in
-    let passes = written c.loop-seat.core (get_or turns c.loop-seat.seat-index (Sender 0, Hold 0)) c.pass_turn.new.core
-    (subst P c.turns-seat-items.ensures.value c.in_ok-pass_turn.ensures.passes) in
+    let P : List Turn → Type 0 = λ ts. Passes c.loop-seat.core (get_or ts c.loop-seat.seat-index (Sender 0, Hold 0)) c.try_step.new.core in
+    let passes = written c.loop-seat.core (get_or turns c.loop-seat.seat-index (Sender 0, Hold 0)) c.try_step.new.core
+    (subst P c.turns-seat-items.ensures.value c.in_ok-try_step.ensures.passes) in
     let before = c.loop-seat.invariant.told in
     record {
-      same = c.in_ok-pass_turn.ensures.same ∙ c.loop-seat.invariant.same;
+      same = c.in_ok-try_step.ensures.same ∙ c.loop-seat.invariant.same;
       told = (
         before.0 ++ passes.0,
         continues_behind c.args.schedule.now.layout turns c.loop-seat.seat-index (Sender 0, Hold 0) c.loop-seat.core
-            c.pass_turn.new.core before.0 (before.0 ++ passes.0) lt (passes.0, passes.1, refl) before.1,
+            c.try_step.new.core before.0 (before.0 ++ passes.0) lt (passes.0, passes.1, refl) before.1,
       );
     }
 
@@ -34,8 +34,8 @@ returns-clause-passed c =
           (drop_of_length-le turns (omega (arith, ap length c.turns-seat-items.ensures.value))) before.1,
     )
 
-pub pass_turn-requires : goal.pass_turn-requires
-pass_turn-requires c =
+pub try_step-requires : goal.try_step-requires
+try_step-requires c =
     let turn : Turn = get_or c.turns-seat-items.result.now c.loop-seat.seat-index (Sender 0, Hold 0) in
     subst (λ (l : Layout). PlacedIn l turn) (sym c.loop-seat.invariant.same)
     (c.turns-seat-items.ensures.fits c.loop-seat.seat-index (Sender 0, Hold 0) c.loop-seat-test.true)

@@ -1,11 +1,11 @@
+use Rattle.std.proofs.lemmas.Result.{on_ok_weaker}
 use Rattle.wq_meaning.proofs.Common.{arith, ◌∙◌, ap, sym, ◌<◌, List, Layout, length, get_or, string_bytes, subst, Turn, GivesBehind}
 use Rattle.std.proofs.Math.ListN.{drop_of_length-le}
-use Rattle.wq_core.specs.Machine.{opening}
 use Rattle.wq_core.specs.declared.step.Seat.TheVariants.{Sender}
 use Rattle.wq_core.specs.declared.step.Step.TheVariants.{Hold}
 use Rattle.wq_text.specs.Turns.{PlacedIn}
 use Rattle.wq_meaning.proofs.ScheduleLines.{continues_opening, continues_behind, output_whole}
-use Rattle.wq_meaning.proofs.schedule_output.output_text.Goals as goal
+use Rattle.wq_meaning.proofs.schedule_output.write_output.Goals as goal
 
 pub loop-seat-preserved : goal.loop-seat-preserved
 loop-seat-preserved c =
@@ -25,8 +25,8 @@ write_ending-requires c = record { same = c.loop-seat.invariant.same ∙ sym c.l
 pub returns : goal.returns
 returns c =
     let turns : List Turn = c.args.schedule.now.turns.items in
-    output_whole c.args.schedule.now.layout turns _ c.loop-seat.core _ _
-    (drop_of_length-le turns (omega (arith, ap length c.turns-seat-items.ensures.value))) c.loop-seat.invariant.told c.in_ok-write_ending.ensures.written
+    on_ok_weaker c.write_ending.result (λ wrote. output_whole c.args.schedule.now.layout turns _ c.loop-seat.core _ _
+    (drop_of_length-le turns (omega (arith, ap length c.turns-seat-items.ensures.value))) c.loop-seat.invariant.told wrote) c.write_ending.ensures.written
 
 pub make_turn-requires : goal.make_turn-requires
 make_turn-requires c =
@@ -37,9 +37,7 @@ make_turn-requires c =
     record { same = c.loop-seat.invariant.same ∙ numbers; placed = subst (λ (l : Layout). PlacedIn l turn) numbers placed }
 
 pub loop-seat-init : goal.loop-seat-init
-loop-seat-init c =
-    let opened = c.in_ok-core.ensures.opening ∙ ap opening c.layout-layout.ensures.numbers in
-    record {
-      same = ap (λ m. m.layout) opened;
-      told = continues_opening c.args.schedule.now.layout _ _ _ opened c.new-out.ensures.bytes;
-    }
+loop-seat-init c = record {
+  same = ap (λ m. m.layout) c.requires.new;
+  told = continues_opening c.args.schedule.now.layout _ _ _ c.requires.new c.requires.empty;
+}

@@ -1,6 +1,6 @@
 use Rattle.std.proofs.Common.{◌≡◌, drop, string_bytes}
 use Rattle.wq_meaning.proofs.ScheduleLines.{Continues}
-use Rattle.wq_meaning.proofs.schedule_output.output_text.Given as goal
+use Rattle.wq_meaning.proofs.schedule_output.write_output.Given as goal
 
 abbrev pub invariant-loop-seat : goal.invariant-loop-seat
 invariant-loop-seat l = record {
