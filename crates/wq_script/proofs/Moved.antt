@@ -1,5 +1,5 @@
 -- Cancellings, modifications and advances of a delay table, and what they are in a script.
-use Rattle.wq_script.proofs.Common.{◌≡◌, ℕ, ◌+◌, Bool, true, false, cond, ◌==◌, List, [], ◌∷◌, ◌++◌, map, inl, inr, refl, sym, ap, ◌∙◌, subst}
+use Rattle.wq_script.proofs.Common.{◌≡◌, ◌≢◌, ℕ, ◌+◌, Bool, true, false, cond, ◌==◌, List, [], ◌∷◌, ◌++◌, map, inl, inr, refl, sym, ap, ◌∙◌, subst}
 use Rattle.wq_script.proofs.Common.{arith}
 use Rattle.wq_script.proofs.Common.{append_assoc, false≢true, if◌then◌else◌, MatchBool, IsTrue, ◌↔◌, AllZip, append-nil, Layout, Event, Push, Back}
 use Rattle.wq_script.proofs.Common.{closed, shut, IsLegal, legal_next, owner_seat, seat_of, own, Armed, Modified, modified_of}
@@ -17,6 +17,26 @@ use Rattle.wq_delay.proofs.Advancing.{stays_in_all}
 use Rattle.wq_script.proofs.Seated.{Acts}
 use Rattle.wq_script.proofs.Queueings.{not_closed, not_draining, closed_not_draining, does_drain, no_owner, met_drain}
 use Rattle.wq_script.proofs.Delayed.{acts, seated_by, goes_with, goes_nowhere, armed_so, near_is, goes_as}
+
+-- a step of another seat is one
+one_is_some : ◌≢◌ {A = ℕ} 1 0
+one_is_some none = absurd (omega (arith, none))
+
+-- answers that do not say that the tick is too far
+idle_near : modified.WasIdle ≢ modified.TooFar
+idle_near is = cc
+
+moved_near : modified.Moved ≢ modified.TooFar
+moved_near is = cc
+
+pending_near : modified.Pending ≢ modified.TooFar
+pending_near is = cc
+
+closed_near : modified.Closed ≢ modified.TooFar
+closed_near is = cc
+
+draining_near : modified.Draining ≢ modified.TooFar
+draining_near is = cc
 
 -- what a post of an item on the table adds, leaves on the table and answers, by the tests on which it rests
 abbrev post_adds : ℕ → ℕ → (back drains : Bool) → List Event
@@ -156,24 +176,24 @@ module _ (layout : Layout) (s t : Seats) (h : List Event) (g : Seated layout s h
     on_told : (a : Modified) → on_table k s.delay.table.entries ≡ true → TellsFar a → ¬ (a ≡ modified.Memory) → Rearms k delay 1 a s.delay d → IsModifiedSo a
     on_told modified.WasIdle at far room told = absurd told
     on_told modified.Pending at far room told = absurd told
-    on_told modified.Contended at far room told = let a = acts layout s t h g d gathered _ 1 told.1.seen in absurd (omega (arith, a.none))
+    on_told modified.Contended at far room told = let a = acts layout s t h g d gathered _ 1 told.1.seen in absurd (one_is_some a.none)
     on_told modified.Memory at far room told = absurd (room refl)
     on_told modified.TooFar at far room told = far_told told (far.0 refl)
     on_told modified.Closed at far room told =
         let a = seated_by layout s t h g d gathered (λ m. Back m k why.Closed ∷ []) 0 told.1.seen in
         let so = back_closed a.seated.wide p k h [] a.seated.legal in
-        posted_told modified.Closed true false (near_by modified.Closed far (λ e. cc)) at told.0 a.seated told.1.table_is (so, closed_not_draining h so) refl
+        posted_told modified.Closed true false (near_by modified.Closed far closed_near) at told.0 a.seated told.1.table_is (so, closed_not_draining h so) refl
     on_told modified.Draining at far room told =
         let a = acts layout s t h g d gathered [] 0 told.1.seen in
         let so = does_drain h (met_drain h [] refl (met_here [] a told.2)) in
-        posted_told modified.Draining false true (near_by modified.Draining far (λ e. cc)) at told.0 a.seated told.1.table_is so refl
+        posted_told modified.Draining false true (near_by modified.Draining far draining_near) at told.0 a.seated told.1.table_is so refl
     on_told modified.Moved at far room (inl told) =
         let a = seated_by layout s t h g d gathered (λ m. Push m k ∷ []) 0 told.1.seen in
         let opens = pushed_open a.seated.wide p k h [] a.seated.legal in
         let so : (closed h ≡ false) × (draining h ≡ false) = (not_closed h opens, not_draining h opens) in
-        posted_told modified.Moved false false (near_by modified.Moved far (λ e. cc)) at told.0 a.seated told.1.table_is so refl
+        posted_told modified.Moved false false (near_by modified.Moved far moved_near) at told.0 a.seated told.1.table_is so refl
     on_told modified.Moved at far room (inr told) =
-        let means = modify_again p k delay h s.delay.table (near_by modified.Moved far (λ e. cc)) at told.0 in
+        let means = modify_again p k delay h s.delay.table (near_by modified.Moved far moved_near) at told.0 in
         let a = acts layout s t h g d gathered [] 0 told.1.seen in
         (sym means.2, goes_with layout s t h g d gathered [] _ _ a.seated (sym means.0) (told.1.table_is ∙ sym means.1))
 
@@ -189,13 +209,13 @@ module _ (layout : Layout) (s t : Seats) (h : List Event) (g : Seated layout s h
     off_told : (a : Modified) → on_table k s.delay.table.entries ≡ false → TellsFar a → ¬ (a ≡ modified.Memory) → ArmsAnew k delay 1 a s.delay d
         → IsModifiedSo a
     off_told modified.WasIdle at far room (inl told) =
-        armed_told (armed.Queued told.0 told.1) at (λ beyond. absurd (cc (far.1 beyond))) (λ e. cc) (λ e. cc) told.2
-    off_told modified.WasIdle at far room (inr told) = armed_told armed.OnTable at (λ beyond. absurd (cc (far.1 beyond))) (λ e. cc) (λ e. cc) told
+        armed_told (armed.Queued told.0 told.1) at (λ beyond. idle_near (far.1 beyond)) (λ e. cc) (λ e. cc) told.2
+    off_told modified.WasIdle at far room (inr told) = armed_told armed.OnTable at (λ beyond. idle_near (far.1 beyond)) (λ e. cc) (λ e. cc) told
     off_told modified.Moved at far room told = absurd told
-    off_told modified.Pending at far room told = armed_told armed.Pending at (λ beyond. absurd (cc (far.1 beyond))) (λ e. cc) (λ e. cc) told
-    off_told modified.Closed at far room told = armed_told armed.Closed at (λ beyond. absurd (cc (far.1 beyond))) (λ e. cc) (λ e. cc) told
-    off_told modified.Draining at far room told = armed_told armed.Draining at (λ beyond. absurd (cc (far.1 beyond))) (λ e. cc) (λ e. cc) told
-    off_told modified.Contended at far room told = let a = acts layout s t h g d gathered _ 1 told.1.seen in absurd (omega (arith, a.none))
+    off_told modified.Pending at far room told = armed_told armed.Pending at (λ beyond. pending_near (far.1 beyond)) (λ e. cc) (λ e. cc) told
+    off_told modified.Closed at far room told = armed_told armed.Closed at (λ beyond. closed_near (far.1 beyond)) (λ e. cc) (λ e. cc) told
+    off_told modified.Draining at far room told = armed_told armed.Draining at (λ beyond. draining_near (far.1 beyond)) (λ e. cc) (λ e. cc) told
+    off_told modified.Contended at far room told = let a = acts layout s t h g d gathered _ 1 told.1.seen in absurd (one_is_some a.none)
     off_told modified.TooFar at far room told = far_told told (far.0 refl)
     off_told modified.Memory at far room told = absurd (room refl)
 
@@ -220,7 +240,7 @@ module _ (layout : Layout) (s t : Seats) (h : List Event) (g : Seated layout s h
     stays : draining h ≡ false → posts.left ≡ []
     stays off = elim (stays_in_all posts.left 1 posts.events s.delay.sender d.sender posts.stays) [
       | inl none ↦ none
-      | inr (inl sees) ↦ let a = acts layout s t h g d gathered posts.events 1 sees in absurd (omega (arith, a.none))
+      | inr (inl sees) ↦ let a = acts layout s t h g d gathered posts.events 1 sees in absurd (one_is_some a.none)
       | inr (inr met) ↦
           let wide = acted.seated.wide in
           let other = no_owner wide p (omega (arith, acted.seated.wider.senders)) in

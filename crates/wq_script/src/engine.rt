@@ -49,8 +49,7 @@ impl Engine {
     {
         let answer = self.seats.queue(sender, item);
         self.tally.queueing(answer);
-        write_line(answer_text(answer), out)?;
-        Ok(())
+        write_line(answer_text(answer), out)
     }
 
     fn flush(&mut self, sender: u32, barrier: u32, out: &mut String) -> Result<(), AllocError>
@@ -60,8 +59,7 @@ impl Engine {
     {
         let answer = self.seats.flush(sender, barrier);
         self.tally.queueing(answer);
-        write_line(answer_text(answer), out)?;
-        Ok(())
+        write_line(answer_text(answer), out)
     }
 
     fn stop(&mut self, sender: u32, out: &mut String) -> Result<(), AllocError>
@@ -71,8 +69,7 @@ impl Engine {
     {
         let answer = self.seats.stop(sender);
         self.tally.queueing(answer);
-        write_line(answer_text(answer), out)?;
-        Ok(())
+        write_line(answer_text(answer), out)
     }
 
     fn run(&mut self, alloc: Global, limit: u32, out: &mut String) -> Result<(), AllocError>
@@ -82,8 +79,7 @@ impl Engine {
     {
         let stop = self.layout.stop();
         let ran = self.seats.run(alloc, &self.layout, limit, Some(stop))?;
-        write_row(&self.layout, "ran", &ran, out)?;
-        Ok(())
+        write_row(&self.layout, "ran", &ran, out)
     }
 
     fn drain(&mut self, alloc: Global, limit: u32, out: &mut String) -> Result<(), AllocError>
@@ -92,13 +88,11 @@ impl Engine {
         ensures { OnOk result (Does self.old self.new (string_bytes out.old) (string_bytes out.new) (Command.Drain limit)) }
     {
         if !self.seats.is_closed() {
-            write_line("not closed", out)?;
-            return Ok(());
+            return write_line("not closed", out);
         }
         let ran = self.seats.run(alloc, &self.layout, limit, None)?;
         write_row(&self.layout, "ran", &ran, out)?;
-        write_left(self.counts().waiting, out)?;
-        Ok(())
+        write_left(self.counts().waiting, out)
     }
 
     // Makes a drain of at most so many executions, which resumes where nothing is left. The numbers that were executed.
@@ -126,8 +120,7 @@ impl Engine {
     {
         let ran = self.drain_row(alloc, limit)?;
         write_row(&self.layout, "ran", &ran, out)?;
-        write_left(self.counts().waiting, out)?;
-        Ok(())
+        write_left(self.counts().waiting, out)
     }
 
     fn close(&mut self, out: &mut String) -> Result<(), AllocError>
@@ -136,8 +129,7 @@ impl Engine {
         ensures { OnOk result (Does self.old self.new (string_bytes out.old) (string_bytes out.new) Command.Close) }
     {
         let taken = self.seats.close();
-        write_close(taken, out)?;
-        Ok(())
+        write_close(taken, out)
     }
 
     fn report(&mut self, out: &mut String) -> Result<(), AllocError>
@@ -145,8 +137,7 @@ impl Engine {
         requires ready { HasStateWithin (2 ^ 60) self.old }
         ensures { OnOk result (Does self.old self.new (string_bytes out.old) (string_bytes out.new) Command.Report) }
     {
-        self.counts().write(out)?;
-        Ok(())
+        self.counts().write(out)
     }
 
     fn follow(&mut self, item: u32, follow: &Follow)
@@ -165,8 +156,7 @@ impl Engine {
         ensures { OnOk result (Does self.old self.new (string_bytes out.old) (string_bytes out.new) (Command.Done sender barrier)) }
     {
         let is_flushed = self.seats.is_flushed(sender, barrier);
-        write_line(either(is_flushed, "true", "false"), out)?;
-        Ok(())
+        write_line(either(is_flushed, "true", "false"), out)
     }
 
     fn check(&mut self, item: u32, out: &mut String) -> Result<(), AllocError>
@@ -175,8 +165,7 @@ impl Engine {
         ensures { OnOk result (Does self.old self.new (string_bytes out.old) (string_bytes out.new) (Command.Check item)) }
     {
         let is_pending = self.seats.is_pending(item);
-        write_line(either(is_pending, "pending", "idle"), out)?;
-        Ok(())
+        write_line(either(is_pending, "pending", "idle"), out)
     }
 
     fn arm(&mut self, item: u32, delay: u64, out: &mut String) -> Result<(), AllocError>
@@ -186,8 +175,7 @@ impl Engine {
     {
         let armed = self.seats.arm(item, delay);
         self.tally.arming(armed);
-        write_line(armed_text(armed), out)?;
-        Ok(())
+        write_line(armed_text(armed), out)
     }
 
     fn cancel(&mut self, item: u32, out: &mut String) -> Result<(), AllocError>
@@ -196,8 +184,7 @@ impl Engine {
         ensures { OnOk result (Does self.old self.new (string_bytes out.old) (string_bytes out.new) (Command.Cancel item)) }
     {
         let was_on_table = self.seats.cancel(item);
-        write_line(either(was_on_table, "cancelled", "not on table"), out)?;
-        Ok(())
+        write_line(either(was_on_table, "cancelled", "not on table"), out)
     }
 
     fn modify(&mut self, item: u32, delay: u64, out: &mut String) -> Result<(), AllocError>
@@ -208,8 +195,7 @@ impl Engine {
         let was_on_table = self.seats.is_on_table(item);
         let modified = self.seats.modify(item, delay);
         self.tally.modification(modified, delay, was_on_table);
-        write_line(modified_text(modified), out)?;
-        Ok(())
+        write_line(modified_text(modified), out)
     }
 
     fn advance(&mut self, alloc: Global, tick: u64, out: &mut String) -> Result<(), AllocError>
@@ -219,12 +205,10 @@ impl Engine {
     {
         let is_closed = self.seats.is_closed();
         let Some(posted) = self.seats.advance(alloc, tick)? else {
-            write_line("false backwards", out)?;
-            return Ok(());
+            return write_line("false backwards", out);
         };
         self.tally.posting(is_closed, posted.len() as u64);
-        write_row(&self.layout, advance_word(is_closed, &posted), &posted, out)?;
-        Ok(())
+        write_row(&self.layout, advance_word(is_closed, &posted), &posted, out)
     }
 
     // The counts of all events so far: the worker's, and those of all other seats.

@@ -1,3 +1,4 @@
+use Rattle.std.proofs.lemmas.Result.{on_ok_weaker}
 use Rattle.wq_script.proofs.Common.{◌∙◌, ℕ, ◌+◌, ◌++◌, sym, ap, refl, arith, string_bytes, length-append, line, arm_events, arm_given, armed_text}
 use Rattle.wq_meaning.proofs.Sizes.{arm_few, arm_table_few}
 use Rattle.wq_script.proofs.TableMeetings.{armed_meets}
@@ -15,15 +16,15 @@ pub returns : goal.returns
 returns c =
     let e = c.args.self.now in
     let p : ℕ = e.layout.senders + 1 in let k : ℕ = c.args.item in let delay : ℕ = c.args.delay in
-    record {
+    on_ok_weaker c.write_line.result (λ written. record {
       layout = refl;
       meets = λ s m.
           (armed_meets e.layout e.seats c.arm-armed.new.self e.tally c.arming.new.self s m k delay c.arm-armed.result c.arm-armed.ensures c.arming.ensures).0;
       lines = λ s m few.
           let same = (armed_meets e.layout e.seats c.arm-armed.new.self e.tally c.arming.new.self s m k delay c.arm-armed.result
           c.arm-armed.ensures c.arming.ensures).1 in
-          c.in_ok-write_line.ensures.written ∙ ap (λ x. string_bytes c.args.out.now ++ line x) (c.armed_text.ensures.text ∙ ap armed_text same);
+          written ∙ ap (λ x. string_bytes c.args.out.now ++ line x) (c.armed_text.ensures.text ∙ ap armed_text same);
       room = λ s m.
           let adds = arm_few p k delay s.history s.table in
           omega (arith, length-append s.history (arm_events p k delay s.history s.table), adds, arm_table_few k delay s.history s.table);
-    }
+    }) c.write_line.ensures.written

@@ -1,3 +1,4 @@
+use Rattle.std.proofs.lemmas.Result.{on_ok_weaker}
 use Rattle.wq_script.proofs.Common.{◌≡◌, ◌∙◌, ℕ, ◌++◌, Bool, List, ap, refl, arith, string_bytes, if◌then◌else◌, codes, not, true, false, line}
 use Rattle.wq_script.proofs.Meetings.{looked_meets}
 use Rattle.wq_script.proofs.engine.Engine.done.Goals as goal
@@ -9,12 +10,12 @@ turned false x y = refl
 pub returns : goal.returns
 returns c =
     let e = c.args.self.now in
-    record {
+    on_ok_weaker c.write_line.result (λ written. record {
       layout = refl;
       meets = λ s m. looked_meets e.layout e.seats c.is_flushed-is_flushed.new.self e.tally s m (c.is_flushed-is_flushed.ensures e.layout s.history m.seated).0;
-      lines = λ s m few. c.in_ok-write_line.ensures.written
+      lines = λ s m few. written
           ∙ ap (λ x. string_bytes c.args.out.now ++ line x)
           (c.either.ensures.chosen ∙ (ap (λ b. if b then codes "true" else codes "false") (c.is_flushed-is_flushed.ensures e.layout s.history m.seated).1
           ∙ turned _ (codes "true") (codes "false")));
       room = λ s m. omega arith;
-    }
+    }) c.write_line.ensures.written

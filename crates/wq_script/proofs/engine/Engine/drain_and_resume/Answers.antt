@@ -1,3 +1,4 @@
+use Rattle.std.proofs.lemmas.Result.{on_ok_weaker}
 use Rattle.wq_script.proofs.Common.{◌∙◌, ◌++◌, ◌≤◌, ap, arith, string_bytes, codes, append_assoc, line, row_text, left_text, ended_since}
 use Rattle.wq_script.proofs.Common.{ScriptState, after_drain, size}
 use Rattle.wq_meaning.specs.declared.report.Counts.{Counts}
@@ -19,7 +20,7 @@ pub returns : goal.returns
 returns c =
     let e = c.args.self.now in
     let d = c.in_ok-ran.ensures in
-    record {
+    on_ok_weaker c.write_left.result (λ written. record {
       layout = d.layout;
       meets = d.meets;
       lines = λ s m few.
@@ -28,8 +29,8 @@ returns c =
           ((c.deref.ensures.value ∙ d.ran_is s m) i)) in
           let size_now : size t ≤ 2305843009213693952 = omega (arith, drain_few e.layout s c.args.limit m.short, c.ranges.limit, few) in
           let left = ap (λ (counts : Counts). counts.waiting) (c.counts.ensures t (d.meets s m) size_now) in
-          c.in_ok-write_left.ensures.written ∙ (ap (λ x. x ++ line (left_text c.counts.result.waiting)) row ∙ (append_assoc (string_bytes c.args.out.now) _ _
+          written ∙ (ap (λ x. x ++ line (left_text c.counts.result.waiting)) row ∙ (append_assoc (string_bytes c.args.out.now) _ _
           ∙ ap (λ n. string_bytes c.args.out.now ++
           (row_text e.layout (codes "ran") (ended_since s.history t.history) ++ line (left_text n))) left));
       room = λ s m. omega (arith, drain_few e.layout s c.args.limit m.short, c.ranges.limit);
-    }
+    }) c.write_left.ensures.written

@@ -1,3 +1,4 @@
+use Rattle.std.proofs.lemmas.Result.{on_ok_weaker}
 use Rattle.wq_script.proofs.Common.{◌∙◌, ℕ, ◌+◌, ◌++◌, sym, ap, refl, arith, string_bytes, length-append, line, modify_events, modify_given, modified_text}
 use Rattle.wq_script.proofs.Common.{modify_few, modify_table_few}
 use Rattle.wq_script.proofs.TableMeetings.{modified_meets}
@@ -15,7 +16,7 @@ pub returns : goal.returns
 returns c =
     let e = c.args.self.now in
     let p : ℕ = e.layout.senders + 1 in let k : ℕ = c.args.item in let delay : ℕ = c.args.delay in
-    record {
+    on_ok_weaker c.write_line.result (λ written. record {
       layout = refl;
       meets = λ s m.
           (modified_meets e.layout e.seats c.modify-modified.new.self e.tally c.modification.new.self s m k delay c.modify-modified.result
@@ -23,8 +24,8 @@ returns c =
       lines = λ s m few.
           let same = (modified_meets e.layout e.seats c.modify-modified.new.self e.tally c.modification.new.self s m k delay
           c.modify-modified.result c.is_on_table-was_on_table.result c.is_on_table-was_on_table.ensures c.modify-modified.ensures c.modification.ensures).1 in
-          c.in_ok-write_line.ensures.written ∙ ap (λ x. string_bytes c.args.out.now ++ line x) (c.modified_text.ensures.text ∙ ap modified_text same);
+          written ∙ ap (λ x. string_bytes c.args.out.now ++ line x) (c.modified_text.ensures.text ∙ ap modified_text same);
       room = λ s m.
           let adds = modify_few p k delay s.history s.table in
           omega (arith, length-append s.history (modify_events p k delay s.history s.table), adds, modify_table_few k delay s.history s.table);
-    }
+    }) c.write_line.ensures.written

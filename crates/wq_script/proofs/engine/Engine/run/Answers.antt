@@ -1,3 +1,4 @@
+use Rattle.std.proofs.lemmas.Result.{on_ok_weaker}
 use Rattle.wq_script.proofs.Common.{ℕ, Some, ◌∙◌, ◌++◌, ap, refl, arith, string_bytes, codes, subst, stop_number, row_text, ends_at, ScriptState}
 use Rattle.wq_script.proofs.Common.{executions_few, RunsAs, Meets}
 use Rattle.wq_script.proofs.Meetings.{ran_meets}
@@ -11,11 +12,11 @@ returns c =
     let runs : P (stop_number e.layout) = subst P c.stop-stop.ensures.number c.in_ok-ran.ensures in
     let goes = λ (s : ScriptState) (m : Meets e s).
     ran_meets e.layout e.seats c.run.new.self e.tally s limit ends ran m (runs s.history m.seated m.idle m.lists) in
-    record {
+    on_ok_weaker c.write_row.result (λ written. record {
       layout = refl;
       meets = λ s m. (goes s m).0;
       lines = λ s m few.
-          c.in_ok-write_row.ensures.written ∙ ap (λ ks. string_bytes c.args.out.now ++ row_text e.layout (codes "ran") ks)
+          written ∙ ap (λ ks. string_bytes c.args.out.now ++ row_text e.layout (codes "ran") ks)
           (c.deref.ensures.value ∙ (goes s m).1);
       room = λ s m. omega (arith, executions_few e.layout.senders s.follows ends limit s.history m.short, c.ranges.limit);
-    }
+    }) c.write_row.ensures.written

@@ -1,3 +1,4 @@
+use Rattle.std.proofs.lemmas.Result.{on_ok_weaker}
 use Rattle.wq_script.proofs.Common.{◌∙◌, sym, refl, stop_number, queue_uncontended}
 use Rattle.wq_script.proofs.Meetings.{asked_does}
 use Rattle.wq_script.proofs.engine.Engine.stop.Goals as goal
@@ -8,5 +9,6 @@ answer_text-requires c =
     record { alone = λ is. queue_uncontended (stop_number e.layout) s.history (sym (c.stop-answer.ensures e.layout s.history m.seated).answer ∙ is) }
 
 pub returns : goal.returns
-returns c = asked_does c.args.self.now c.stop-answer.new.self c.queueing.new.self _ _ _ c.args.sender stop_number c.stop-answer.result _
-    c.requires.fits c.stop-answer.ensures c.queueing.ensures c.in_ok-write_line.ensures.written c.answer_text.ensures.text (λ s. refl) (λ s t. refl)
+returns c = on_ok_weaker c.write_line.result
+    (λ written. asked_does c.args.self.now c.stop-answer.new.self c.queueing.new.self _ _ _ c.args.sender stop_number c.stop-answer.result _
+    c.requires.fits c.stop-answer.ensures c.queueing.ensures written c.answer_text.ensures.text (λ s. refl) (λ s t. refl)) c.write_line.ensures.written

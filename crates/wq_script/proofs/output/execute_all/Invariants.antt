@@ -1,6 +1,6 @@
 use Rattle.wq_script.proofs.Common.{◌≡◌, ◌++◌, ◌*◌, ◌^◌, ◌≤◌, drop, fold, string_bytes, ScriptState, state_after, output_from, output_of, Meets, size}
 use Rattle.wq_meaning.specs.Order.{final_state}
-use Rattle.wq_script.proofs.output.output_text.Given as goal
+use Rattle.wq_script.proofs.output.execute_all.Given as goal
 
 -- the output so far and that of the commands that are left are all, for some state that the engine is in, and these commands
 -- lead from it to the last state
