@@ -165,7 +165,10 @@ impl<K: Station + Drop> PoolOf<K> {
                     left,
                 })
             }
-            (None, None) => Ok(take_apart(all, finished)),
+            (None, None) => {
+                let parts = take_apart(all, finished);
+                Ok(parts)
+            }
         }
     }
 }

@@ -201,9 +201,10 @@ impl<K: Station + Drop + Send> PoolOf<K> {
         let mut next = None;
         for _ in rt.forever() {
             if self.has_stopped() {
-                if let Some(queue) = next {
-                    self.announce_last(rt, caller, queue);
-                }
+                let Some(queue) = next else {
+                    return;
+                };
+                self.announce_last(rt, caller, queue);
                 return;
             }
             next = self.serve_next(rt, caller, next, gate);

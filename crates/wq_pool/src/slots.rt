@@ -97,7 +97,7 @@ fn filled<K: Station + Drop>(
 {
     let mut slots = Vec::with_capacity(alloc, queues.len())?;
     for queue in queues {
-        slots.push(Some(queue))?;
+        slots.push_reserved(Some(queue));
     }
     Ok(slots)
 }
@@ -144,14 +144,15 @@ impl<K: Station + Drop> Slots<K> {
         if slots.compare_exchange::<PicksUp>(&mut seat, place, 0, 1) != 0 {
             return None;
         }
-        match slots.exchange(&mut seat, place, None) {
-            Some(served) => Some(TurnOf {
-                queue,
-                runner: Runner::of(served),
-                seat,
-            }),
-            None => unreachable!(),
-        }
+        let Some(served) = slots.exchange(&mut seat, place, None) else {
+            unreachable!()
+        };
+        let turn = TurnOf {
+            queue,
+            runner: Runner::of(served),
+            seat,
+        };
+        Some(turn)
     }
 
     /// Lays the queue in its slot again.

@@ -44,3 +44,25 @@ loop-queue-preserved g c =
           (λ some. subst (λ (u : TurnState _). EndsJust limit (state start).seen (state u.worker).seen) (sym into) (drain.executed some))
           c.push_reserved.ensures.items,
     )
+
+pub returns-in_default : goal.returns-in_default
+returns-in_default g c =
+    let i = c.loop-queue.invariant in
+    record {
+      first = i.0;
+      all = tt;
+      drained = i.3;
+      left = i.4;
+      out = (omega (arith, i.1), omega (arith, c.count-queue-end.ensures, c.loop-queue-test.true));
+    }
+
+pub returns : goal.returns
+returns g c =
+    let i = c.loop-queue.invariant in
+    record {
+      first = i.0;
+      all = omega (arith, i.1, c.count-queue-end.ensures, c.loop-queue-test.false);
+      drained = i.3;
+      left = i.4;
+      out = tt;
+    }
