@@ -9,8 +9,6 @@ use Rattle.wq_core.specs.declared.step.Step.{Step}
 use Rattle.wq_core.specs.declared.step.Step.TheVariants as step
 use Rattle.wq_core.specs.declared.step.Reply.{Reply}
 use Rattle.wq_core.specs.declared.step.Reply.TheVariants as reply
-use Rattle.wq_meaning.specs.declared.replies.Named.{Named}
-use Rattle.wq_meaning.specs.declared.replies.Named.TheVariants as behind
 use Rattle.wq_meaning.specs.Names.{named}
 
 -- what a head says: that nothing waits on the list, its newest number, that the queue is closed, or that it drains
@@ -19,12 +17,6 @@ head_text layout heads.Empty = codes "empty"
 head_text layout (heads.Item k) = codes "item" ++ named layout k
 head_text layout heads.Closed = codes "closed"
 head_text layout heads.Draining = codes "draining"
-
--- what a reply says behind its word: nothing, a head or the name of a number
-abbrev pub named_text : Layout → Named → List ℕ
-named_text layout behind.Nothing = []
-named_text layout (behind.Head head) = head_text layout head
-named_text layout (behind.Number k) = named layout k
 
 -- what a step is answered
 abbrev pub reply_text : Layout → Reply → List ℕ

@@ -1,10 +1,9 @@
 //! How the steps of a schedule read.
 ghost use Rattle.std.specs.Prelude.{◌≡◌, ◌++◌, OnOk, string_bytes};
-ghost use Rattle.wq_meaning.specs.Replies.{head_text, named_text, reply_text, why_text, said_again, made_text};
-ghost use Rattle.wq_words.specs.declared.layout.Layout.{Layout};
+ghost use Rattle.wq_meaning.specs.Replies.{head_text, reply_text, why_text, said_again, made_text};
 ghost use Rattle.wq_meaning.specs.Report.{line};
 
-use crate::lines::{write_name, write_named};
+use crate::lines::{either, write_name, write_named};
 use std::alloc::AllocError;
 use wq_core::{Reply, Step};
 use wq_words::{Head, Layout, Why};
@@ -20,53 +19,39 @@ fn write_head(layout: &Layout, head: Head, out: &mut String) -> Result<(), Alloc
     }
 }
 
-// What a reply says behind its word.
-#[derive(Clone, Copy)]
-enum Named {
-    Nothing,
-    Head(Head),
-    Number(u32),
-}
-
-// The word of a reply, and what it says behind that.
-fn said(reply: Reply) -> (&'static str, Named)
-    ensures { (layout : Layout) → reply_text layout reply ≡ result.0.now ++ named_text layout result.1 }
+/// Writes a word and what was taken.
+fn write_taken(layout: &Layout, word: &str, head: Head, out: &mut String) -> Result<(), AllocError>
+    ensures { OnOk result (string_bytes out.new ≡ string_bytes out.old ++ (word.now ++ head_text layout.now head)) }
 {
-    match reply {
-        Reply::Held => ("held", Named::Nothing),
-        Reply::Busy | Reply::ChainBusy => ("busy", Named::Nothing),
-        Reply::Looked(head) => ("", Named::Head(head)),
-        Reply::Linked => ("linked", Named::Nothing),
-        Reply::Pushed { first: true, .. } => ("pushed first", Named::Nothing),
-        Reply::Pushed { first: false, .. } => ("pushed", Named::Nothing),
-        Reply::Lost => ("lost", Named::Nothing),
-        Reply::GivenBack => ("back", Named::Nothing),
-        Reply::Pending => ("pending", Named::Nothing),
-        Reply::Idle => ("idle", Named::Nothing),
-        Reply::Took(head) => ("took ", Named::Head(head)),
-        Reply::Closed(head) => ("closed ", Named::Head(head)),
-        Reply::Drained(head) => ("drained ", Named::Head(head)),
-        Reply::Resumed => ("resumed", Named::Nothing),
-        Reply::Walked(None) => ("end", Named::Nothing),
-        Reply::Walked(Some(number)) => ("next", Named::Number(number)),
-        Reply::Began(number) => ("began", Named::Number(number)),
-        Reply::Ended(number) => ("ended", Named::Number(number)),
-        Reply::Chained => ("chained", Named::Nothing),
-        Reply::Turned => ("turned", Named::Nothing),
-        Reply::Rested => ("rested", Named::Nothing),
-    }
+    out.push_str(word)?;
+    write_head(layout, head, out)
 }
 
 /// Writes what a step is answered.
 fn write_reply(layout: &Layout, reply: Reply, out: &mut String) -> Result<(), AllocError>
     ensures { OnOk result (string_bytes out.new ≡ string_bytes out.old ++ reply_text layout.now reply) }
 {
-    let (word, named) = said(reply);
-    out.push_str(word)?;
-    match named {
-        Named::Nothing => Ok(()),
-        Named::Head(head) => write_head(layout, head, out),
-        Named::Number(number) => write_name(layout, number, out),
+    match reply {
+        Reply::Held => out.push_str("held"),
+        Reply::Busy | Reply::ChainBusy => out.push_str("busy"),
+        Reply::Looked(head) => write_head(layout, head, out),
+        Reply::Linked => out.push_str("linked"),
+        Reply::Pushed { first, .. } => out.push_str(either(first, "pushed first", "pushed")),
+        Reply::Lost => out.push_str("lost"),
+        Reply::GivenBack => out.push_str("back"),
+        Reply::Pending => out.push_str("pending"),
+        Reply::Idle => out.push_str("idle"),
+        Reply::Took(head) => write_taken(layout, "took ", head, out),
+        Reply::Closed(head) => write_taken(layout, "closed ", head, out),
+        Reply::Drained(head) => write_taken(layout, "drained ", head, out),
+        Reply::Resumed => out.push_str("resumed"),
+        Reply::Walked(None) => out.push_str("end"),
+        Reply::Walked(Some(number)) => write_named(layout, "next", number, out),
+        Reply::Began(number) => write_named(layout, "began", number, out),
+        Reply::Ended(number) => write_named(layout, "ended", number, out),
+        Reply::Chained => out.push_str("chained"),
+        Reply::Turned => out.push_str("turned"),
+        Reply::Rested => out.push_str("rested"),
     }
 }
 

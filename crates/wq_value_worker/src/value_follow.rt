@@ -10,7 +10,7 @@ use std::mem::swap;
 #[derive(Drop)]
 pub struct ValueFollow<V> {
     // Those that are there come first. Fields of their own, since a call to which an array of values of any type is moved owes
-    // that its size fits.
+    // that its size fits. They move by swaps, since an assignment drops what it takes the place of.
     first: Option<(u32, V)>,
     second: Option<(u32, V)>,
     third: Option<(u32, V)>,
