@@ -1,7 +1,6 @@
 use Rattle.std.proofs.Common.{◌≡◌, Some, sym, ◌∙◌}
 use Rattle.std.proofs.lemmas.List.Elements.{All-pop}
 use Rattle.wq_live.specs.Known.{Known}
-use Rattle.wq_worker.specs.History.{accepted}
 use Rattle.wq_worker.specs.State.{items_among}
 use Rattle.example_threads.proofs.one_worker.queue_and_destroy.Goals as goal
 
