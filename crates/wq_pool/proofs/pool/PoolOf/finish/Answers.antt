@@ -1,7 +1,7 @@
 use Rattle.std.specs.Prelude.{IfSome, IfNone}
 use Rattle.std.proofs.lemmas.List.{take_all}
-use Rattle.wq_pool.proofs.Common.{◌≡◌, ℕ, ◌<◌, ◌≤◌, Option, List, map, length, take, sym, refl, ap, ◌∙◌, subst, arith, length-map, turn_id, PoolState, WorkerId}
-use Rattle.wq_pool.proofs.Common.{AreComplete, AreFinishedBy, LeavesOf, FirstWereDrained, IsLeftTo, ComeFromDrains, BeginAsHandedIn}
+use Rattle.wq_pool.proofs.Common.{◌≡◌, ℕ, ◌<◌, Option, List, map, length, sym, refl, ap, ◌∙◌, subst, arith, length-map, turn_id, PoolState, WorkerId}
+use Rattle.wq_pool.proofs.Common.{AreFinishedBy, LeavesOf, FirstWereDrained, IsLeftTo, ComeFromDrains, BeginAsHandedIn}
 use Rattle.wq_pool.proofs.Gathering.{finished_count, finished_each, first_drained, parts_drained, parts_go_on}
 use Rattle.wq_pool.proofs.pool.PoolOf.finish.Goals as goal
 
