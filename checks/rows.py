@@ -12,7 +12,8 @@ Lines before the rows say of all that follow: `command WORDS` the subcommand and
 with, `times N` how often each is run. After `after STEPS` a row is `STEP => REPLY`: the step is tried right after these, which
 are all enabled, and where it is not enabled the numbers that were accepted and begun stay as they were. After `beginnings TEXT`
 a row is `FROM to UPTO => WANT`, of the texts of so many bytes that TEXT begins with; together they are all of them. A line that
-begins with `--` says what the rows after it show.
+begins with `--` says what the rows after it show. A file without a row is a fault, and so is a text that stands twice under one
+command.
 """
 import re
 import subprocess
@@ -44,6 +45,8 @@ class Runner:
 
     def __init__(self, program, folder):
         self.program, self.file, self.count = Path(program).resolve(), Path(folder) / "text", 0
+        # where each text stands, with its command
+        self.places = {}
 
     def run(self, command, text):
         self.file.write_bytes(text)
@@ -53,7 +56,10 @@ class Runner:
 
     def fault(self, command, text, want):
         """What is wrong with what becomes of the text, or nothing."""
-        got = self.run(command, text)
+        try:
+            got = self.run(command, text)
+        except subprocess.TimeoutExpired as fault:
+            return f"it did not end within {fault.timeout} seconds"
         if want == "read":
             return "" if (got[0], got[2]) == (0, b"") else f"it was not read: {got[0]} {got[2]!r}"
         if want.startswith("! "):
@@ -89,21 +95,33 @@ def faults_of(runner, state, left, want):
     return [runner.fault(command, before + text_of(left), want) for _ in range(int(state["times"]))]
 
 
+def fault_of_place(runner, state, left, place):
+    """Whether the text of a row stands at another place too."""
+    if "beginnings" in state or "after" in state:
+        return []
+    text = state["command"], text_of(state["before"]) + text_of(left)
+    first = runner.places.setdefault(text, place)
+    return [f"{place}: its text stands at {first} too"] if first != place else []
+
+
 def faults_in(runner, rows):
     """Runs the rows of a file. Answers what is wrong, by line."""
-    state, faults = {"before": "", "times": "1", "lengths": []}, []
+    state, faults, count = {"before": "", "times": "1", "lengths": []}, [], runner.count
     for number, line in enumerate(rows.read_text().splitlines(), 1):
         named = re.match(r"(command|before|times|after|beginnings)\b ?(.*)", line)
         row = re.fullmatch(r"(.*?) ?=> ?(.*)", line)
-        if named:
+        if named and row:
+            faults.append(f"{rows}:{number}: a setting, and no row")
+        elif named:
             state[named[1]] = named[2]
         elif row and not line.startswith("--"):
+            faults += fault_of_place(runner, state, row[1], f"{rows}:{number}")
             faults += [f"{rows}:{number}: {it}" for it in faults_of(runner, state, row[1], row[2]) if it]
         elif line and not line.startswith("--"):
             faults.append(f"{rows}:{number}: no row")
     if "beginnings" in state and state["lengths"] != list(range(len(text_of(state["beginnings"])) + 1)):
         faults.append(f"{rows}: the rows of the beginnings leave out some, or have one twice")
-    return faults
+    return faults if runner.count > count else [*faults, f"{rows}: no row was run"]
 
 
 def main(program):
