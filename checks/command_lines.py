@@ -1,10 +1,11 @@
 #!/usr/bin/env python3
 """Runs command lines with the program that is named: which file it opens, what it writes where, and its status.
 
-Each runs in a folder with a script, a schedule and a plan, and with a script on standard input. A row is the words, the status,
-and what standard output and standard error hold: the very bytes, or `Some` texts that stand in it in any order.
+Each runs in a folder with a script, a schedule and a plan, and with a script on standard input, a pipe but for some rows. A row is the
+words, the status, and what standard output and standard error hold: the very bytes, or `Some` texts that stand in it in any order.
 """
 import os
+import socket
 import subprocess
 import sys
 import tempfile
@@ -15,10 +16,12 @@ SCHEDULE = b"steps 1\nitems 4\nsenders 2\n0 look\n"
 PLAN = b'{"queues":1,"workers":1,"senders":2,"own":2}'
 TRACE = b"trace 1\nitems 2\nqueue 0\n"
 INPUT = b"wq 1\nitems 4\nsenders 2\nclose\n"
+# what was read of a file before the program is given it
+BEFORE = b"read\n"
 FILES = {"a.wq": SCRIPT, "a.steps": SCHEDULE, "a.json": PLAN, "steps": SCRIPT, "--help": SCHEDULE, "-": PLAN}
 FILES |= {"a.trace": TRACE, "bad.trace": TRACE + b"start 1\n"}
 FILES |= {"b.steps": SCHEDULE + b"0 hold 1\no take\no begin\n"}
-FILES |= {" a.wq": INPUT, "a.wq ": INPUT}
+FILES |= {" a.wq": INPUT, "a.wq ": INPUT, "read": BEFORE + INPUT}
 
 QUEUED, CLOSED = b"true first\n", b"closed 0\n"
 EMPTY = b"empty\naccepted nothing\nbegun nothing\n"
@@ -60,6 +63,8 @@ ROWS = [
     (["script", " a.wq"], 0, CLOSED, b""),
     (["script", "a.wq "], 0, CLOSED, b""),
     (["steps", " a.steps"], 1, b"", b"file: Unreadable\n"),
+    (["script", ""], 1, b"", b"file: Unreadable\n"),
+    ("script a.wq/", 1, b"", b"file: Unreadable\n"),
     # a text that is another's, and no file
     ("script a.steps", 1, b"", b"line 1: Version\n"),
     ("steps a.wq", 1, b"", b"line 1: Version\n"),
@@ -83,6 +88,8 @@ ROWS = [
     ("--version", 0, b"wqrun 0.1.0\n", b""),
     ("-h", 0, HELP, b""),
     ("-V", 0, b"wqrun 0.1.0\n", b""),
+    ("--version a.wq", 0, b"wqrun 0.1.0\n", b""),
+    ("--help a.wq", 0, HELP, b""),
     # refused words
     ("race a", 2, b"", Some([b"error: unrecognized subcommand 'race'"])),
     ("script", 2, b"", Some([b"error: the following required arguments were not provided"])),
@@ -93,11 +100,28 @@ ROWS = [
     ("steps --drained a.steps", 2, b"", Some([b"error: unexpected argument '--drained' found"])),
     ("script --drained a.wq", 2, b"", Some([b"error: unexpected argument '--drained' found"])),
     ("check --drained --drained a.trace", 2, b"", Some([b"error: the argument '--drained' cannot be used multiple times"])),
+    ("check --drained=true a.trace", 2, b"", Some([b"error: unexpected value 'true' for '--drained' found"])),
+    ("check --drain a.trace", 2, b"", Some([b"error: unexpected argument '--drain' found"])),
+    ("steps --history --history a.steps", 2, b"", Some([b"error: the argument '--history' cannot be used multiple times"])),
+    ("script --version", 2, b"", Some([b"error: unexpected argument '--version' found"])),
+    ("-- script a.wq", 2, b"", Some([b"error: unexpected argument 'script' found"])),
     ("script a b", 2, b"", Some([b"error: unexpected argument 'b' found"])),
     ("live --fast a", 2, b"", Some([b"error: unexpected argument '--fast' found"])),
     # behind help stand names of commands alone
     ("help --help", 2, b"", Some([b"error: unrecognized subcommand '--help'"])),
     ("help script --help", 2, b"", Some([b"error: unrecognized subcommand '--help'"])),
+]
+
+# Standard input that is no pipe: a file of which something was read before, a socket, a folder, and none at all. `/dev/stdin` is
+# opened anew, so a file is read from its beginning, and a socket cannot be opened.
+UNREADABLE = (1, b"", b"file: Unreadable\n")
+INPUTS = [
+    ("file", "", (0, CLOSED, b"")),
+    ("file", "script /dev/stdin", (1, b"", b"line 1: Version\n")),
+    ("socket", "", (0, CLOSED, b"")),
+    ("socket", "script /dev/stdin", UNREADABLE),
+    ("folder", "", UNREADABLE),
+    ("nothing", "", UNREADABLE),
 ]
 
 # on a device that takes nothing: standard output alone, and standard error too
@@ -116,12 +140,31 @@ class Runner:
     def __init__(self, program, folder):
         self.program, self.folder, self.failed, self.count = Path(program).resolve(), folder, 0, 0
 
-    def run(self, words, **streams):
+    def run(self, words, own_name=b"other", **streams):
         words = words.split() if isinstance(words, str) else words
-        line = [b"other", *(os.fsencode(word) for word in words)]
-        streams = {"stdout": subprocess.PIPE, "stderr": subprocess.PIPE, **streams}
-        ran = subprocess.run(line, executable=self.program, cwd=self.folder, input=INPUT, timeout=60, **streams)
+        line = [own_name, *(os.fsencode(word) for word in words)]
+        given = {} if "stdin" in streams else {"input": INPUT}
+        streams = {"stdout": subprocess.PIPE, "stderr": subprocess.PIPE, **given, **streams}
+        ran = subprocess.run(line, executable=self.program, cwd=self.folder, timeout=60, **streams)
         return ran.returncode, ran.stdout, ran.stderr
+
+    def run_on(self, kind, words):
+        """What becomes of the words with standard input of a kind."""
+        if kind == "nothing":
+            return self.run(words, stdin=subprocess.DEVNULL, preexec_fn=lambda: os.close(0))
+        if kind == "socket":
+            given, taken = socket.socketpair()
+            with given, taken:
+                given.sendall(INPUT)
+                given.shutdown(socket.SHUT_WR)
+                return self.run(words, stdin=taken)
+        file = os.open(self.folder if kind == "folder" else Path(self.folder, "read"), os.O_RDONLY)
+        try:
+            if kind == "file":
+                os.lseek(file, len(BEFORE), os.SEEK_SET)
+            return self.run(words, stdin=file)
+        finally:
+            os.close(file)
 
     def hold(self, words, got, want):
         self.count += 1
@@ -144,6 +187,9 @@ def main(program):
         runner = Runner(program, folder)
         for words, *want in ROWS:
             runner.hold(words, runner.run(words), want)
+        runner.hold("by a name that is no text", runner.run("", own_name=b"\xff"), UNREADABLE)
+        for kind, words, want in INPUTS:
+            runner.hold(f"{words} on a {kind}", runner.run_on(kind, words), want)
         for words, status, faults in FULL_OUTPUT:
             runner.hold(words, runner.run(words, stdout=full), (status, None, faults))
         for words, status in FULL:
