@@ -92,6 +92,8 @@ def faults_of(runner, name, words, text):
             must_come = place in WANTED_THREADS[name] if fault == "thread fails" else FAULTS[fault][1]
             is_well = is_as_wanted(got, right, fault, must_come)
             found += [f"{name}, {fault} at call {place}: {got}, right is {right}"] if not is_well else []
+        else:
+            found += [f"{name}, {fault}: it comes at each of {MOST - 1} calls, so no run was whole"]
     return found, count
 
 

@@ -15,6 +15,7 @@ import sys
 from pathlib import Path
 
 GOALS = Path(__file__).resolve().parent / "goals"
+CRATES = GOALS.parent.parent / "crates"
 # the log has the beginning of the first goal alone, so a long name may be cut off: one that is whole ends with its backquote
 REFUSED = re.compile(r"must-fail (\S+)\.edit: refused, as it must be: note: src/\S+: .*?\(`([\w-]*`?)")
 # with which option there are how many words at least
@@ -50,13 +51,18 @@ def compare_controls(rows, refused, proved, wanted):
         faults += is_wrong
         print(f"{body}: {f'refused first at {named(found)}' if found else 'proved'}{', which is to tell its body from it' if is_wrong else ''}")
     print(f"goals: {len(refused) + len(proved)} controls, {len(proved)} proved, {faults} not as wanted")
-    return faults == 0
+    return bool(wanted) and faults == 0
+
+
+def bodies():
+    """The wrong bodies of the gate, as they stand in the crates."""
+    return {f"{it.parent.parent.name}/{it.stem}" for it in CRATES.glob("*/must-fail/*.edit")}
 
 
 def compare(rows, refused):
     """Shows each wrong body that is refused at another goal than is wanted; whether there is none."""
     faults = 0
-    for body in sorted(rows.keys() | refused.keys()):
+    for body in sorted(rows.keys() | refused.keys() | bodies()):
         goal, seen = rows.get(body, [None])[0], refused.get(body)
         if not (goal and seen and is_goal(goal, seen)):
             print(f"{body}: refused at {named(seen) if seen else 'no goal of the source'}, and not at {goal or 'one that is written down'}")

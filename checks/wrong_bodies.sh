@@ -14,7 +14,10 @@ names=("$@")
 if [ ${#names[@]} -eq 0 ]; then mapfile -t names < <(ls "checks/$folder"); fi
 room=$(mktemp -d)
 trap 'rm -rf "$room"' EXIT
-git ls-files -z crates crates.txt HANDLES | xargs -0 cp --parents -t "$room"
+# as they stand: with what is not added yet, and without what is taken away
+git ls-files -z -co --exclude-standard crates crates.txt HANDLES | while IFS= read -r -d '' file; do
+    if [ -e "$file" ]; then printf '%s\0' "$file"; fi
+done | xargs -0 cp --parents -t "$room"
 for name in "${names[@]}"; do
     rm -rf "$room/crates/$name/must-fail"
     cp -r "checks/$folder/$name" "$room/crates/$name/must-fail"
