@@ -12,7 +12,7 @@ use wq_pool::{Gate, ServedOf};
 use wq_worker::Station;
 
 /// So often a queue looks what the others do.
-const LOOKS: u32 = 1_000_000;
+const LOOKS: u32 = 20_000_000;
 
 /// Before the item of each of three queues it waits until all three are there, and counts the queues to which that came.
 #[derive(Drop)]

@@ -189,7 +189,7 @@ fn owes_at_last<R: Abort + Threads + Wait + Sync>(
 }
 
 /// A turn is given back where it owes an execution, which it does where the worker's one try is lost to another sender. The
-/// next turn goes on with it, and nothing is lost. The gate is called before it in the first turn, and after it in the last.
+/// next turn goes on with it. The gate is called before it in the first turn, and after it in the last.
 #[test]
 fn owing_is_given_back(rt: HostRuntime) {
     let Disturbed {

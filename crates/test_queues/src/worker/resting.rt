@@ -29,19 +29,23 @@ fn run_once<R: Abort + Threads + Wait + Sync>(
     (rests, wakes, work.order.len())
 }
 
-/// A worker that rests before it parks is woken on `wakes` alone: once a rest and once at first, not once an item.
+/// A worker that rests before it parks is woken on `wakes` alone: once a rest and once at first, not once an item. In some of the
+/// runs it rests.
 #[test]
 fn woken_once_a_rest(rt: HostRuntime) {
+    let mut rested = 0u32;
     for _ in 0..200u32 {
         let (rests, wakes, items) = run_once(&rt, rt.alloc(), Wakes::OnRest);
         expect_same(&rt, items, 16);
         assert!(rt; wakes <= rests.wrapping_add(1), "{wakes} for {rests}");
+        rested = rested.wrapping_add(rests);
     }
+    assert!(rt; rested > 0);
 }
 
-/// A worker that serves never rests, and is woken on `first` alone.
+/// A worker that serves never rests, and runs all where it is woken on `first` alone.
 #[test]
-fn woken_once_a_take(rt: HostRuntime) {
+fn runs_all_where_woken_on_first(rt: HostRuntime) {
     for _ in 0..200u32 {
         let (_, _, items) = run_once(&rt, rt.alloc(), Wakes::OnFirst);
         expect_same(&rt, items, 16);
