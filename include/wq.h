@@ -6,12 +6,18 @@
  *
  * Threads: any thread may use a seat, but one call at a time may be in it. A seat is handed to another thread by that thread's
  * start or join, a lock, or a sequentially consistent atomic (the default of C11's atomic_store and atomic_load); different seats of
- * one queue need nothing. No call waits, takes a lock, or starts a thread; only wq_build takes memory, which the release of a queue's
- * last seat frees, and wq_check_history of wq_pure.h, which frees it before it returns. No call is for a signal handler, or for the
- * forked child of a process with threads.
+ * one queue need nothing. No call waits, starts a thread, or takes a lock of its own. Only wq_build takes memory, which the release of
+ * a queue's last seat frees, and wq_check_history of wq_pure.h, which frees it before it returns. The allocator of these three may take
+ * a lock. No call is for the forked child of a process with threads.
+ *
+ * Signals: a handler's calls are those of the thread that it interrupts. A handler makes no call in a seat in which a call was
+ * interrupted. Nor does it call one of the three that take or free memory, wq_measured_spins, or wq_worker.h.
  */
 #ifndef WQ_H
 #define WQ_H
+#if !defined(__x86_64__) || !defined(__linux__) || defined(__ILP32__)
+#error "wq.h: the library is for x86-64 Linux with addresses of 64 bits"
+#endif
 #include <stddef.h>
 #include <stdint.h>
 #include <time.h>
@@ -64,10 +70,12 @@ enum wq_code {
     WQ_NO_THREAD = 131 /* of wq_worker.h: no thread could be started; the queue may rest then */
 };
 
+/* Whether this code of a queueing says that it was accepted. */
 static inline int wq_is_queued(uint32_t code) { return (code & WQ_QUEUED) && code < WQ_PENDING; }
 /* Whether who got this answer has to wake the owner. */
 static inline int wq_wakes(uint32_t code) { return wq_is_queued(code) && (code & WQ_WAKES) != 0; }
 
+/* The name of an answer, without its WQ_: "QUEUED|FIRST", say. It is "?" where this header has no such code. */
 static inline const char *wq_code_name(uint32_t code) {
     static const char *const answers[] = {"OK", "QUEUED", "?", "QUEUED|FIRST", "?", "QUEUED|WAKES", "?", "QUEUED|FIRST|WAKES",
         "PENDING", "CLOSED", "DRAINING", "CONTENDED", "NO", "YES"};
@@ -79,10 +87,13 @@ static inline const char *wq_code_name(uint32_t code) {
         : code >= WQ_SEAT_BUSY && code <= WQ_NO_THREAD ? found[code - WQ_SEAT_BUSY] : "?";
 }
 
-/* ---- the proved exports; each answers a code in the low half of a word and a number in the high half */
+/* ---- the exports that say how many bytes a seat takes, and how many its address is a multiple of, which is not proved */
 size_t wq_c_seat_size(void);
 size_t wq_c_seat_align(void);
+
+/* ---- the proved exports. This one makes a vacant seat, and answers nothing; */
 void wq_c_init(void *at);
+/* each other answers a code in the low half of a word and a number in the high half */
 uint64_t wq_c_build(void *at, uint32_t items, uint32_t barriers, uint32_t senders);
 uint64_t wq_c_hand_out(void *owner, void *to);
 uint64_t wq_c_release(void *at);
@@ -174,13 +185,14 @@ static inline uint32_t wq_init(wq_seat *seat) {
 }
 
 /* Builds a queue of 1 to 65,536 items, 1 to 16 barriers and 1 to 64 senders. Its owner takes the seat. The queue rests: its first
- * queueing is answered WQ_WAKES, and a wq_rest before it WQ_NO. */
+ * queueing is answered WQ_WAKES, and a wq_rest before it WQ_NO. WQ_OK; WQ_IN_USE, the first of WQ_ITEMS, WQ_BARRIERS and WQ_SENDERS that
+ * is out of its limits, or WQ_MEMORY. */
 static inline uint32_t wq_build(wq_seat *owner, uint32_t items, uint32_t barriers, uint32_t senders) {
     WQ_CALL(owner, WQ_NO_NUMBER, wq_c_build(owner->room, items, barriers, senders));
 }
 
 /* Hands out a sender, of those that are left the one with the highest number. It takes the other seat. One seat twice is WQ_IN_USE,
- * also a vacant one: the library is given two seats, never one as both. */
+ * also a vacant one: the library is given two seats, never one as both. WQ_OK; WQ_IN_USE, WQ_NOT_OWNER, WQ_NO_SENDER. */
 static inline uint32_t wq_hand_out(wq_seat *owner, wq_seat *to) {
     uint32_t code = wq_enter(to);
     if (code) return code;
@@ -195,7 +207,7 @@ static inline uint32_t wq_hand_out(wq_seat *owner, wq_seat *to) {
     return code;
 }
 
-/* Gives up a seat, which is vacant then; an owner's only once its queue has run to its end. */
+/* Gives up a seat, which is vacant then; an owner's only once its queue has run to its end. WQ_OK; WQ_NOT_DONE. */
 static inline uint32_t wq_release(wq_seat *seat) {
     uint32_t code = wq_enter(seat);
     if (code) return code;
@@ -208,25 +220,36 @@ static inline uint32_t wq_release(wq_seat *seat) {
     return code;
 }
 
-/* ---- senders */
+/* ---- senders; a seat that is no sender's is answered WQ_NOT_SENDER */
+/* Queues an item, with so many tries at most, and 1 at least. WQ_QUEUED with WQ_FIRST and WQ_WAKES, WQ_PENDING, WQ_CLOSED, WQ_DRAINING,
+ * WQ_CONTENDED; WQ_NO_ITEM, WQ_NO_TRIES. */
 static inline uint32_t wq_queue_tries(wq_seat *sender, uint32_t item, uint32_t tries) {
     WQ_CALL(sender, WQ_NO_NUMBER, wq_c_queue(sender->room, item, tries));
 }
+/* The same with the most tries, so never WQ_NO_TRIES. */
 static inline uint32_t wq_queue(wq_seat *sender, uint32_t item) { return wq_queue_tries(sender, item, WQ_MOST_TRIES); }
-/* WQ_YES says what WQ_PENDING does, but hands nothing over. WQ_NO does not say that the execution has ended. */
+/* Whether the item is pending: WQ_YES, which says what WQ_PENDING does, but hands nothing over, or WQ_NO, which does not say that the
+ * execution has ended; WQ_NO_ITEM. */
 static inline uint32_t wq_is_pending(wq_seat *sender, uint32_t item) {
     WQ_CALL(sender, WQ_NO_NUMBER, wq_c_is_pending(sender->room, item));
 }
+/* Queues a barrier, which is given by its own number from 0, with the most tries. The codes of wq_queue, but WQ_NO_BARRIER in place of
+ * WQ_NO_ITEM. */
 static inline uint32_t wq_flush_begin(wq_seat *sender, uint32_t barrier) {
     WQ_CALL(sender, WQ_NO_NUMBER, wq_c_flush_begin(sender->room, barrier, WQ_MOST_TRIES));
 }
+/* WQ_YES where the barrier is not pending: all that was accepted before it was queued has ended. Else WQ_NO; WQ_NO_BARRIER. Of a flush of
+ * one's own it says something only where the last wq_flush_begin of that barrier was answered WQ_QUEUED. */
 static inline uint32_t wq_flush_done(wq_seat *sender, uint32_t barrier) {
     WQ_CALL(sender, WQ_NO_NUMBER, wq_c_flush_done(sender->room, barrier));
 }
+/* Queues the stop item, with the most tries: the queue's last number, items + barriers, at which an owner's loop may end. The codes of
+ * wq_queue, but not WQ_NO_ITEM. */
 static inline uint32_t wq_request_stop(wq_seat *sender) { WQ_CALL(sender, WQ_NO_NUMBER, wq_c_request_stop(sender->room, WQ_MOST_TRIES)); }
 /* How long the sender gives way after a lost exchange: twice as many pauses as the count, then four times, then eight times as many.
- * The count is 128 where nobody sets it. It is time alone, of which no proof says anything. */
+ * The count is 128 where nobody sets it. It is time alone, of which no proof says anything. WQ_OK. */
 static inline uint32_t wq_set_spins(wq_seat *sender, uint32_t count) { WQ_CALL(sender, WQ_NO_NUMBER, wq_c_set_spins(sender->room, count)); }
+/* The sender's number, from 0. WQ_OK. The pointer may be NULL. */
 static inline uint32_t wq_number(wq_seat *sender, uint32_t *number) { WQ_CALL(sender, number, wq_c_number(sender->room)); }
 
 /* How many pauses pass in three quarters of a microsecond, from 8 to 512: the count for wq_set_spins, and for an owner whose take found
@@ -247,17 +270,32 @@ static inline uint32_t wq_measured_spins(void) {
     return count < 8 ? 8 : count > 512 ? 512 : (uint32_t)count;
 }
 
-/* ---- the owner; a number is written only where the code is WQ_OK */
+/* ---- the owner; a seat that is no owner's is answered WQ_NOT_OWNER. A number is written only where the code is WQ_OK, and its pointer
+ * may be NULL. */
+/* Takes all that was queued, and counts it, barriers and the stop item too. WQ_OK; WQ_IS_CLOSED, WQ_IS_DRAINING, WQ_SOME_WAIT. */
 static inline uint32_t wq_take(wq_seat *owner, uint32_t *count) { WQ_CALL(owner, count, wq_c_take(owner->room)); }
+/* Closes the queue, also one that drains, and takes and counts all that was queued. WQ_OK; WQ_IS_CLOSED. */
 static inline uint32_t wq_close(wq_seat *owner, uint32_t *count) { WQ_CALL(owner, count, wq_c_close(owner->room)); }
+/* Begins a drain, and takes and counts all that was queued. WQ_OK; WQ_IS_CLOSED, WQ_IS_DRAINING. */
 static inline uint32_t wq_drain(wq_seat *owner, uint32_t *count) { WQ_CALL(owner, count, wq_c_drain(owner->room)); }
+/* Ends a drain, once all that was taken has ended. WQ_OK; WQ_NOT_DRAINING, WQ_SOME_WAIT, WQ_IS_RUNNING. */
 static inline uint32_t wq_resume(wq_seat *owner) { WQ_CALL(owner, WQ_NO_NUMBER, wq_c_resume(owner->room)); }
+/* The oldest number that was taken or chained and has not begun. WQ_OK; WQ_NONE_WAITS. */
 static inline uint32_t wq_next(wq_seat *owner, uint32_t *number) { WQ_CALL(owner, number, wq_c_next(owner->room)); }
+/* How many numbers were taken or chained and have not begun. WQ_OK. */
 static inline uint32_t wq_waiting(wq_seat *owner, uint32_t *count) { WQ_CALL(owner, count, wq_c_waiting(owner->room)); }
+/* Begins the number that wq_next tells, a barrier (items + its own number) and the stop item (items + barriers) too. WQ_OK;
+ * WQ_IS_RUNNING, WQ_NONE_WAITS. */
 static inline uint32_t wq_begin(wq_seat *owner, uint32_t *number) { WQ_CALL(owner, number, wq_c_begin(owner->room)); }
+/* Ends what runs. WQ_OK; WQ_NONE_RUNS. */
 static inline uint32_t wq_end(wq_seat *owner) { WQ_CALL(owner, WQ_NO_NUMBER, wq_c_end(owner->room)); }
+/* For an owner that is going to sleep. WQ_YES: the next queueing is answered WQ_WAKES. WQ_NO: something was queued, or the queue rests
+ * already, so take before you sleep. WQ_IS_CLOSED, WQ_IS_DRAINING, WQ_SOME_WAIT, WQ_IS_RUNNING. */
 static inline uint32_t wq_rest(wq_seat *owner) { WQ_CALL(owner, WQ_NO_NUMBER, wq_c_rest(owner->room)); }
+/* Queues an item behind all that waits, from the execution that runs while the queue is closed or drains. WQ_QUEUED, WQ_PENDING;
+ * WQ_NO_ITEM, WQ_IS_OPEN, WQ_NONE_RUNS. */
 static inline uint32_t wq_chain(wq_seat *owner, uint32_t item) { WQ_CALL(owner, WQ_NO_NUMBER, wq_c_chain(owner->room, item)); }
+/* Whether the queue is closed and all that was accepted has ended: WQ_YES or WQ_NO. */
 static inline uint32_t wq_is_done(wq_seat *owner) { WQ_CALL(owner, WQ_NO_NUMBER, wq_c_is_done(owner->room)); }
 
 /* ---- counts */
@@ -274,7 +312,8 @@ static inline uint64_t wq_sum_counts(wq_seat *seat, wq_counts *sums) {
     return WQ_OK;
 }
 
-/* Adds what the seat has counted since it was taken to these sums: a sender's counts, an owner's, or nothing where it is vacant. */
+/* Adds what the seat has counted since it was taken to these sums, which are not NULL: a sender's counts, an owner's, or nothing where it
+ * is vacant. WQ_OK. */
 static inline uint32_t wq_add_counts(wq_seat *seat, wq_counts *sums) { WQ_CALL(seat, WQ_NO_NUMBER, wq_sum_counts(seat, sums)); }
 
 /* Whether all that was accepted was executed. So it is of the sums over all seats of a queue that has run to its end. */

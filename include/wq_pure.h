@@ -1,7 +1,7 @@
 /* Calls that want no queue: the proved checker of histories. docs/C.md says how to use it.
  *
  * Any thread may call it, also two at once, but no signal handler. It takes memory for the size of the queue, and gives it back before
- * it returns.
+ * it returns; the allocator may take a lock.
  */
 #ifndef WQ_PURE_H
 #define WQ_PURE_H
@@ -30,7 +30,8 @@ typedef struct wq_event {
     uint32_t kind, sender, number;
 } wq_event;
 
-/* Why an event may not come: its kind is none, its sender or number none of the queue's, or what the events before it say against it. */
+/* Why an event may not come: its kind is none, its sender or number none of the queue's, or what the events before it say against it.
+ * WQ_FAULT_NO_NUMBER is also that of a barrier or the stop item that is chained. */
 enum wq_fault {
     WQ_FAULT_NO_EVENT = 96, WQ_FAULT_NO_SENDER = 97, WQ_FAULT_NO_NUMBER = 98,
     WQ_FAULT_PENDING = 99, WQ_FAULT_IDLE = 100,    /* the PENDING bit is set, is clear */

@@ -1,5 +1,5 @@
 /* A thread that owns a queue and executes it by a function: a convenience over the proved calls of wq.h, and itself not proved.
- * Linux alone (futex) and POSIX threads; link with -pthread.
+ * Linux alone (futex) and POSIX threads; link with -pthread. No call is for a signal handler.
  *
  * Build a queue and hand out its senders first, then start one worker on the owner's seat, and the senders' threads after it. The
  * seat is the worker's until wq_worker_finish or wq_worker_stop has returned: no other thread makes a call in it, and a worker that

@@ -31,6 +31,8 @@ static void arm(long microseconds) {
     CHECK(setitimer(ITIMER_REAL, &once, NULL) == 0);
 }
 
+/* As wq.h wants of a handler, it makes no call in a seat in which a call was interrupted: never in the sender's, and in the owner's only
+ * while is_owning is 0. Nor does any call of it take or free memory. */
 static void interrupt(int number) {
     uint32_t n;
     CHECK(signal(number, interrupt) != SIG_ERR); /* a signal that is set by C99 alone is set once */
