@@ -163,7 +163,7 @@ def _drop(at, _room, process):
 
 
 class Seat:
-    """A vacant seat, a sender's or an owner's."""
+    """A vacant seat, a sender's or an owner's. A call of a sender raises NOT_SENDER of another seat, and one of an owner NOT_OWNER."""
 
     def __init__(self):
         self._room = ctypes.create_string_buffer(_library.wq_c_seat_size() + ALIGNMENT)
@@ -196,9 +196,12 @@ class Seat:
         return Code(code), number
 
     def build(self, items, barriers, senders):
+        """Builds a queue of 1 to 65,536 items, 1 to 16 barriers and 1 to 64 senders, whose owner takes this vacant seat. Raises IN_USE, the
+        first of ITEMS, BARRIERS and SENDERS that is out of its limits, or MEMORY."""
         self._call("build", items=items, barriers=barriers, senders=senders)
 
     def hand_out(self, to):
+        """An owner's: gives a vacant seat to the sender with the highest number that is left. Raises IN_USE, NO_SENDER."""
         if to is self:
             raise WqError(Error.IN_USE)
         first, second = sorted((self, to), key=id)  # one order for both ways, so that two threads never wait for each other
@@ -208,52 +211,72 @@ class Seat:
             raise WqError(word)
 
     def release(self):
+        """Gives the seat up, which is vacant then. Raises NOT_DONE of an owner whose queue has not run to its end."""
         self._call("release")
 
     def queue(self, item, tries=MOST_TRIES):
+        """A sender's: queues an item, with so many tries at most. A Code that is_queued, or PENDING, CLOSED, DRAINING or CONTENDED. Raises
+        NO_ITEM, NO_TRIES."""
         return self._call("queue", item=item, tries=tries)[0]
 
     def queue_tries(self, item, tries):
+        """The same, by its name in C."""
         return self.queue(item, tries)
 
     def is_pending(self, item):
+        """A sender's: whether the item is pending. That it is not does not say that its execution has ended. Raises NO_ITEM."""
         return self._call("is_pending", item=item)[0] == Code.YES
 
     def flush_begin(self, barrier, tries=MOST_TRIES):
+        """A sender's: queues a barrier, by its own number from 0. A Code, as of `queue`. Raises NO_BARRIER, NO_TRIES."""
         return self._call("flush_begin", barrier=barrier, tries=tries)[0]
 
     def flush_done(self, barrier):
+        """A sender's: whether the barrier is not pending: all that was accepted before it was queued has ended. Of a flush of
+        one's own it says something only where the last `flush_begin` of that barrier was queued. Raises NO_BARRIER."""
         return self._call("flush_done", barrier=barrier)[0] == Code.YES
 
     def request_stop(self, tries=MOST_TRIES):
+        """A sender's: queues the stop item, number items + barriers. A Code, as of `queue`. Raises NO_TRIES."""
         return self._call("request_stop", tries=tries)[0]
 
     def set_spins(self, count):
-        """How long it gives way after a lost exchange: twice as many pauses as the count, then four times, then eight times as many."""
+        """A sender's: how long it gives way after a lost exchange, twice as many pauses as the count, then four times, then eight
+        times as many."""
         self._call("set_spins", count=count)
 
     def number(self):
+        """A sender's: its number, from 0."""
         return self._call("number")[1]
 
     def take(self):
+        """An owner's: takes all that was queued, and answers how much, barriers and the stop item too. Raises IS_CLOSED, IS_DRAINING,
+        SOME_WAIT."""
         return self._call("take")[1]
 
     def close(self):
+        """An owner's: closes the queue, also one that drains, takes all that was queued, and answers how much. Raises IS_CLOSED."""
         return self._call("close")[1]
 
     def drain(self):
+        """An owner's: begins a drain, takes all that was queued, and answers how much. Raises IS_CLOSED, IS_DRAINING."""
         return self._call("drain")[1]
 
     def resume(self):
+        """An owner's: ends a drain, once all that was taken has ended. Raises NOT_DRAINING, SOME_WAIT, IS_RUNNING."""
         self._call("resume")
 
     def waiting(self):
+        """An owner's: how many numbers were taken or chained and have not begun."""
         return self._call("waiting")[1]
 
     def next(self):
+        """An owner's: the oldest number that was taken or chained and has not begun, or None where nothing waits."""
         return self._number_or_none("next")
 
     def begin(self):
+        """An owner's: begins the number of `next` and answers it, a barrier (items + its own number) and the stop item too, or None where
+        nothing waits. Raises IS_RUNNING."""
         return self._number_or_none("begin")
 
     def _number_or_none(self, name):
@@ -265,15 +288,21 @@ class Seat:
             return None
 
     def end(self):
+        """An owner's: ends what runs. Raises NONE_RUNS."""
         self._call("end")
 
     def rest(self):
+        """An owner's, before it sleeps: True, and the next queueing `wakes`, or False where something was queued, or the queue rests
+        already: take before you sleep. Raises IS_CLOSED, IS_DRAINING, SOME_WAIT, IS_RUNNING."""
         return self._call("rest")[0] == Code.YES
 
     def chain(self, item):
+        """An owner's: queues an item behind all that waits, from the execution that runs while the queue is closed or drains. Code.QUEUED
+        or Code.PENDING. Raises NO_ITEM, IS_OPEN, NONE_RUNS."""
         return self._call("chain", item=item)[0]
 
     def is_done(self):
+        """An owner's: whether the queue is closed and all that was accepted has ended."""
         return self._call("is_done")[0] == Code.YES
 
     def counts(self):
