@@ -101,7 +101,7 @@ int main(int argc, char **argv) {
         return 3;
     }
     struct timespec start, end;
-    timespec_get(&start, TIME_UTC);
+    clock_gettime(CLOCK_MONOTONIC, &start);
     for (uint32_t number = 0; number < queue_count; number++) {
         if (!make_queue(&queues[number])) {
             return 3;
@@ -119,7 +119,7 @@ int main(int argc, char **argv) {
         items += queues[number].items;
         strays += queues[number].strays;
     }
-    timespec_get(&end, TIME_UTC);
+    clock_gettime(CLOCK_MONOTONIC, &end);
     printf("items %" PRIu64 " nanos %" PRId64 " picks %" PRIu64 " strays %" PRIu64 "\n", items,
            (int64_t)(end.tv_sec - start.tv_sec) * 1000000000 + (end.tv_nsec - start.tv_nsec), items, strays);
     return 0;

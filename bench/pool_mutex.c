@@ -216,7 +216,7 @@ int main(int argc, char **argv) {
     struct sender *senders = row(sender_count, sizeof *senders);
     struct worker *workers = row(worker_count, sizeof *workers);
     struct timespec start, end;
-    timespec_get(&start, TIME_UTC);
+    clock_gettime(CLOCK_MONOTONIC, &start);
     make_queues();
     for (uint32_t number = 0; number < worker_count; number++) {
         if (pthread_create(&workers[number].thread, NULL, serve, &workers[number]) != 0) {
@@ -237,7 +237,7 @@ int main(int argc, char **argv) {
         pthread_join(workers[number].thread, NULL);
         picks += workers[number].picks;
     }
-    timespec_get(&end, TIME_UTC);
+    clock_gettime(CLOCK_MONOTONIC, &end);
     for (uint32_t number = 0; number < queue_count; number++) {
         items += queues[number].items;
         strays += queues[number].strays;

@@ -199,7 +199,7 @@ int main(int argc, char **argv) {
         return 3;
     }
     struct timespec start, end;
-    timespec_get(&start, TIME_UTC);
+    clock_gettime(CLOCK_MONOTONIC, &start);
     for (uint32_t number = 0; number < senders; number++) {
         all[number] = (struct sender){.queue = &queue, .from = number * slice, .to = (number + 1) * slice};
         if (pthread_create(&all[number].thread, NULL, feed, &all[number]) != 0) {
@@ -214,7 +214,7 @@ int main(int argc, char **argv) {
         pthread_join(all[number].thread, NULL);
         least = all[number].queued < least ? all[number].queued : least;
     }
-    timespec_get(&end, TIME_UTC);
+    clock_gettime(CLOCK_MONOTONIC, &end);
     printf("items %" PRIu64 " nanos %" PRId64 " takes %" PRIu64 " least %" PRIu64 "\n", ended,
            (int64_t)(end.tv_sec - start.tv_sec) * 1000000000 + (end.tv_nsec - start.tv_nsec), takes, least);
     free(all);

@@ -1,6 +1,7 @@
 // A hashed timing wheel in C11, to measure `bench_queue delays` beside: 256 slots of doubly linked items, and for each item the
 // PENDING bit that a sender of the queue sets and clears. What is due is linked behind what was due before, as a push does.
 // usage: wheel ITEMS ROUNDS; prints nanoseconds an item.
+#define _POSIX_C_SOURCE 199309L // clock_gettime
 #include <inttypes.h>
 #include <stdatomic.h>
 #include <stdio.h>
@@ -76,7 +77,7 @@ __attribute__((noinline)) static void advance(struct wheel *wheel) {
 
 static uint64_t nanos(void) {
     struct timespec now;
-    timespec_get(&now, TIME_UTC);
+    clock_gettime(CLOCK_MONOTONIC, &now);
     return (uint64_t)now.tv_sec * 1000000000u + (uint64_t)now.tv_nsec;
 }
 
