@@ -1,8 +1,8 @@
 #!/usr/bin/env bash
 # Builds the library of C, and tests the calls of include/ from C, C++, Python and Rust: c_api.sh [WQRUN]. Where the program WQRUN is
 # named, it judges the histories of the random runs. Tools that are not installed are left out, each with a line: valgrind, rustc,
-# c++, python3, and the sanitizers of cc and of clang. Three minutes of a processor, beside the proof of wq_c; the other compiler of the
-# kit takes that proof as it is kept.
+# c++, clang, clang++, python3, pkg-config, and the sanitizers of cc and of clang. Three minutes of a processor, beside the proof of wq_c;
+# the other compiler of the kit takes that proof as it is kept.
 set -euo pipefail
 wqrun=${1:+$(realpath "$1")}
 cd "$(dirname "${BASH_SOURCE[0]}")/.."
@@ -62,13 +62,32 @@ timeout 60 "$work/worker_answers"
 built refusals -Wl,--wrap=wq_c_seat_size,--wrap=wq_c_seat_align,--wrap=pthread_create
 timeout 60 "$work/refusals"
 # the headers alone, as each compiler that is there takes them, without a warning
+alone=(-pedantic -Wall -Wextra -Wconversion -Wsign-conversion -Wshadow -Wredundant-decls -Werror -Iinclude -fsyntax-only)
 for compiler in "${CC:-cc}" clang; do
-    command -v "$compiler" >/dev/null || continue
+    command -v "$compiler" >/dev/null || { left_out "$compiler"; continue; }
     for standard in c99 c11 c2x gnu11; do
         for checked in -UWQ_UNCHECKED -DWQ_UNCHECKED; do
-            printf '#include <wq_worker.h>\n#include <wq_pure.h>\nint main(void) { return 0; }\n' | "$compiler" -x c -std=$standard $checked \
-                -pedantic -Wall -Wextra -Wconversion -Wsign-conversion -Wshadow -Wredundant-decls -Werror -Iinclude -fsyntax-only -
+            printf '#include <wq_worker.h>\n#include <wq_pure.h>\nint main(void) { return 0; }\n' |
+                "$compiler" -x c -std=$standard $checked "${alone[@]}" -
         done
+    done
+done
+for compiler in "${CXX:-c++}" clang++; do
+    command -v "$compiler" >/dev/null || { left_out "$compiler"; continue; }
+    for standard in c++11 c++17 c++20; do
+        for checked in -UWQ_UNCHECKED -DWQ_UNCHECKED; do
+            "$compiler" -std=$standard $checked "${alone[@]}" checks/c/client.cc
+        done
+    done
+done
+# elsewhere than on x86-64 Linux they say why they are refused
+for elsewhere in -U__x86_64__ -U__linux__ -D__ILP32__; do
+    for header in wq.h wq_worker.h wq_pure.h; do
+        if echo "#include <$header>" | "${CC:-cc}" -x c $elsewhere -Iinclude -fsyntax-only - 2>"$work/said" ||
+            ! grep -qF '"wq.h: ' "$work/said"; then
+            echo "$header: not refused with $elsewhere"
+            exit 1
+        fi
     done
 done
 built pure
@@ -143,11 +162,6 @@ fi
 if command -v "${CXX:-c++}" >/dev/null; then
     "${CXX:-c++}" -std=c++11 -O2 -Wall -Wextra -Werror -pthread -Iinclude -o "$work/client" checks/c/client.cc "$work/libyeangvos.a"
     timeout 60 "$work/client"
-    for standard in c++11 c++17 c++20; do
-        "${CXX:-c++}" -std=$standard -pedantic -Wall -Wextra -Wconversion -Wsign-conversion -Wshadow -Werror -Iinclude -fsyntax-only checks/c/client.cc
-    done
-else
-    left_out c++
 fi
 "${CC:-cc}" "${strict[@]}" -o "$work/logger" examples/c/logger.c "$work/libyeangvos.a"
 timeout 60 "$work/logger" >"$work/lines"
@@ -222,7 +236,13 @@ if command -v pkg-config >/dev/null; then
     "${CC:-cc}" -Wall -Wextra -Werror -o "$work/page" "$work/page.c" "${flags[@]}"
     # a queueing between the worker's first take and its rest wakes nobody
     timeout 60 "$work/page" | sed 's/|WAKES$//' | sort | diff <(printf 'QUEUED|FIRST\nitem 2 of mine\n' | sort) -
-    ! command -v "${CXX:-c++}" >/dev/null || "${CXX:-c++}" -x c++ -std=c++11 -Wall -Wextra -Werror "${flags[@]}" -fsyntax-only "$work/page.c"
+    read -ra flags < <(pkg-config --cflags yeangvos)
+    for compiler in "${CXX:-c++}" clang++; do
+        command -v "$compiler" >/dev/null || continue
+        for checked in -UWQ_UNCHECKED -DWQ_UNCHECKED; do
+            "$compiler" -x c++ -std=c++11 $checked -Wall -Wextra -Werror "${flags[@]}" -fsyntax-only "$work/page.c"
+        done
+    done
     echo "pkg-config: the installed library serves, and the program of docs/C.md runs"
 else
     left_out pkg-config
