@@ -28,18 +28,23 @@ built() {
     if [ "${PROVED:-0}" = 1 ]; then over_proved; else rt lib --backend "$backend"; fi
 }
 
+# Another run in this repository would build crates/wq_c/out/libwq_c.a anew, for another backend, before it is copied, and checks/build.py,
+# which takes this lock too, sets aside what is built over. What is started here has the lock as well, and keeps it where this is killed.
+exec 9<crates.txt
+flock 9
+made=$(mktemp -d)
 # rt builds in no folder with a link, and a run for crates/wq_c/out has left one there
 link=crates/wq_c/out/libyeangvos.so
 linked=$(readlink "$link" || true)
+put_back() {
+    rm -rf "$made"
+    [ -z "$linked" ] || [ -L "$link" ] || ln -s "$linked" "$link"
+}
+trap put_back EXIT
 rm -f "$link"
-status=0
-(cd crates/wq_c && built >"$folder/said" 2>&1) || status=$?
-[ -z "$linked" ] || ln -s "$linked" "$link"
-[ $status = 0 ] || { tail -20 "$folder/said"; exit 1; }
-rm -f "$folder/libyeangvos.a" "$folder/said"
+(cd crates/wq_c && built >"$made/said" 2>&1) || { tail -20 "$made/said" >&2; exit 1; }
+rm -f "$folder/libyeangvos.a"
 # by bare names, since a script of ar reads no path with a space or a letter of its own
-made=$(mktemp -d)
-trap 'rm -rf "$made"' EXIT
 cp crates/wq_c/out/libwq_c.a "$kit/c/liblibc_c.a" "$made"
 (cd "$made" && printf 'create libyeangvos.a\naddlib libwq_c.a\naddlib liblibc_c.a\nsave\nend\n' | ar -M)
 install -m 644 "$made/libyeangvos.a" "$folder"
