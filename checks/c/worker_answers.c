@@ -200,9 +200,11 @@ static void occupied(void) {
 /* When another thread drains a worker whose function stops it. */
 enum { NEVER, BEHIND_THE_STOP, BEFORE_THE_STOP, TURNS };
 static uint32_t drains;
+/* What the worker's bell counts once the drain behind the stop has asked; 0 until that is known, when the stop has rung it already. */
+static uint32_t asked;
 
 /* In the worker's own thread a stop asks for the end and joins nothing. It lets another thread's call come before the end, or waits until
- * that thread is in its drain. */
+ * that thread's drain has asked. */
 static void stop_inside(uint32_t item, void *data) {
     const struct timespec while_called = {0, 20 * 1000 * 1000};
     CHECK(data == &worker);
@@ -210,6 +212,7 @@ static void stop_inside(uint32_t item, void *data) {
         CHECK(wq_is_queued(wq_worker_queue(&worker, &sender, BEHIND_FLUSH)));
         if (drains != BEFORE_THE_STOP) CHECK(wq_worker_stop(&worker) == WQ_NOT_DONE);
         __atomic_add_fetch(&ran, 1, __ATOMIC_SEQ_CST);
+        while (drains == BEHIND_THE_STOP && wq_load(&worker.bell) != wq_load(&asked)) sched_yield();
         while (drains == BEFORE_THE_STOP && wq_load(&worker.wanted) != WQ_DRAINED) sched_yield();
         nanosleep(&while_called, NULL);
         if (drains == BEFORE_THE_STOP) CHECK(wq_worker_stop(&worker) == WQ_NOT_DONE);
@@ -222,11 +225,12 @@ static void stop_inside(uint32_t item, void *data) {
 static void stopped_inside(void) {
     for (drains = NEVER; drains < TURNS; drains++) {
         build();
-        ran = 0;
+        ran = asked = 0;
         CHECK(wq_worker_start(&worker, &owner, ITEMS, stop_inside, &worker) == WQ_OK);
         CHECK(wq_is_queued(wq_worker_queue(&worker, &other, FIRST_RUN)));
         while (wq_load(&ran) == 0) sched_yield();
         if (drains != NEVER) {
+            __atomic_store_n(&asked, wq_load(&worker.bell) + 1, __ATOMIC_SEQ_CST);
             wq_worker_drain(&worker);
             wq_worker_resume(&worker);
             CHECK(wq_worker_queue(&worker, &other, ITEMS - 1) == WQ_CLOSED);
