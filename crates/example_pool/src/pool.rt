@@ -51,9 +51,13 @@ impl From<Unbuilt<Runs>> for RunError {
 /// A queue that has run to its end: its work and its book, and its senders with what they were told.
 #[derive(Drop)]
 pub struct Ended {
+    /// The work, with the list of what it ran.
     pub work: Runs,
+    /// The book, with the whole history of the queue, which contracts alone see.
     pub book: Book,
+    /// The sender 0, whose queueings were of the items 0 and 1.
     pub first: Told,
+    /// The sender 1, whose queueings were of the items 2 and 3.
     pub second: Told,
 }
 

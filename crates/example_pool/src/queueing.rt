@@ -15,8 +15,11 @@ use wq_pool::{Caller, Pool};
 /// A sender, and what its two queueings were answered.
 #[derive(Drop)]
 pub struct Told {
+    /// The sender, with the history that it has seen, which contracts alone see.
     pub sender: Sender,
+    /// What its first queueing was answered.
     pub one: Answer,
+    /// What its second queueing was answered.
     pub two: Answer,
 }
 
