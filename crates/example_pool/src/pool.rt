@@ -181,13 +181,10 @@ fn both_of(finished: Vec<(Runs, Book)>) -> ((Runs, Book), (Runs, Book))
     requires two { length finished.items ≡ 2 }
     ensures both { finished.items ≡ result.0 ∷ result.1 ∷ [] }
 {
-    let mut finished = finished.into_iter();
-    let Some(one) = finished.next() else {
+    let Ok(finished) = <[(Runs, Book); 2]>::try_from(finished) else {
         unreachable!()
     };
-    let Some(two) = finished.next() else {
-        unreachable!()
-    };
+    let [one, two] = finished;
     (one, two)
 }
 
