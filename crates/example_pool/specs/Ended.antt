@@ -1,5 +1,5 @@
 -- What the senders of a queue were told, and what the queue has done in the end.
-use Rattle.std.specs.Prelude.{◌≡◌, ℕ, ◌≤◌, List, ◌++◌}
+use Rattle.std.specs.Prelude.{◌≡◌, ℕ, ◌<◌, ◌≤◌, List, ◌++◌, length}
 use Rattle.wq_words.specs.declared.layout.Layout.{Layout}
 use Rattle.wq_words.specs.declared.event.Event.{Event}
 use Rattle.wq_words.specs.History.{accepted, begun, ended}
@@ -8,20 +8,22 @@ use Rattle.wq_words.specs.Headline.{KeepsHeadline}
 use Rattle.wq_words.specs.Seen.{own}
 use Rattle.wq_live.specs.Known.{QueueId, IsSame, new_sender}
 use Rattle.wq_live.specs.Laws.{queued_number}
-use Rattle.wq_ready.specs.Known.{Identity, IsCallerOf}
-use Rattle.wq_worker.specs.State.{items_among}
+use Rattle.wq_worker.specs.State.{WorkerState, items_among}
+use Rattle.wq_pool.specs.Known.{PoolState, IsCallerOf}
 use Rattle.wq_pool.specs.Quiet.{IsQuiet}
+use Rattle.example_pool.specs.declared.work.Runs.{Runs}
 use Rattle.example_pool.specs.declared.queueing.Seat.{Seat}
 use Rattle.example_pool.specs.declared.queueing.Line.{Line}
 use Rattle.example_pool.specs.declared.queueing.Told.{Told}
 use Rattle.example_pool.specs.declared.pool.Ended.{Ended}
 
--- the new senders 0 and 1 of one queue, which has four items, with callers of this ready queue
-pub record IsNewLine (ready : Identity) (line : Line) : Type 0 where
+-- the new senders 0 and 1 of one queue, which has four items, with callers of this pool and a number of one of its queues
+pub record IsNewLine (pool : PoolState (WorkerState Runs)) (line : Line) : Type 0 where
   pub items : 4 ≤ line.first.sender.layout.items
   pub first_is : line.first.sender ≡ new_sender line.first.sender.queue line.first.sender.layout 0
   pub second_is : line.second.sender ≡ new_sender line.first.sender.queue line.first.sender.layout 1
-  pub callers : IsCallerOf ready line.first.caller × IsCallerOf ready line.second.caller
+  pub callers : IsCallerOf pool.ready line.first.caller × IsCallerOf pool.ready line.second.caller
+  pub queues : (line.first.queue < length pool.workers) × (line.second.queue < length pool.workers)
 
 -- the same sender has queued these items: just those of them were accepted whose queueing was answered Queued, in this order
 pub record QueuedBoth (one two : ℕ) (seat : Seat) (told : Told) : Type 0 where

@@ -98,11 +98,13 @@ fn caller_of(pool: &Pool<Runs>, callers: &mut Vec<Caller>) -> Caller
 
 // The senders of the pool's queue of this number, two of them with callers.
 fn line_of(pool: &Pool<Runs>, callers: &mut Vec<Caller>, queue: u32, senders: Vec<Sender>) -> Line
+    requires queue { queue < length pool.now.workers }
     requires senders { length senders.items ≡ 3 }
     requires some { 2 ≤ length callers.old.items }
     requires all { All (IsCallerOf pool.now.ready) callers.old.items }
     ensures senders { senders.items ≡ result.first.sender ∷ result.second.sender ∷ result.last ∷ [] }
     ensures two { IsCallerOf pool.now.ready result.first.caller × IsCallerOf pool.now.ready result.second.caller }
+    ensures queues { (result.first.queue < length pool.now.workers) × (result.second.queue < length pool.now.workers) }
     ensures all { All (IsCallerOf pool.now.ready) callers.new.items }
     ensures count { length callers.new.items + 2 ≡ length callers.old.items }
 {
@@ -139,8 +141,9 @@ fn serve<R: Threads + Wait + Sync>(
 ) -> Result<((Told, Told), (Told, Told)), RunError>
     requires workers { All (IsCallerOf pool.now.ready) workers.items }
     requires caller { IsCallerOf pool.now.ready caller }
-    requires one { IsNewLine pool.now.ready one }
-    requires two { IsNewLine pool.now.ready two }
+    requires queues { 2 ≤ length pool.now.workers }
+    requires one { IsNewLine pool.now one }
+    requires two { IsNewLine pool.now two }
     ensures one { IfOk result (λ told. HaveQueued one.first.sender.queue told.0.0 told.0.1) }
     ensures two { IfOk result (λ told. HaveQueued two.first.sender.queue told.1.0 told.1.1) }
 {
@@ -150,7 +153,7 @@ fn serve<R: Threads + Wait + Sync>(
             requires { All (IsCallerOf pool.now.ready) workers.items }
         { pool.run(rt, workers.as_mut_slice(), &NoGate) },
         move ||
-            requires { IsCallerOf pool.now.ready caller × IsNewLine pool.now.ready one × IsNewLine pool.now.ready two }
+            requires { IsCallerOf pool.now.ready caller × (2 ≤ length pool.now.workers) × IsNewLine pool.now one × IsNewLine pool.now two }
             ensures { HaveQueued one.first.sender.queue result.0.0 result.0.1 × HaveQueued two.first.sender.queue result.1.0 result.1.1 }
         { queue_all(rt, pool, caller, one, two) },
     );

@@ -1,5 +1,5 @@
 //! Senders in threads of their own, and the stop items.
-ghost use Rattle.std.specs.Prelude.{◌≡◌, ◌<◌, ◌≤◌, ◌++◌, []};
+ghost use Rattle.std.specs.Prelude.{◌≡◌, ◌<◌, ◌≤◌, ◌++◌, [], length};
 ghost use Rattle.wq_pool.specs.History.{accepted};
 ghost use Rattle.wq_pool.specs.Seen.{own};
 ghost use Rattle.wq_pool.specs.Laws.{queued_number};
@@ -39,24 +39,29 @@ pub(crate) struct Line {
     pub(crate) last: Sender,
 }
 
-// One queueing. Where it wakes the queue, this is announced, so that a worker picks it; each seat's queue is one of the pool's.
+// One queueing. Where it wakes the queue, this is announced, so that a worker picks it.
 fn queue<R: Wait>(rt: &R, pool: &Pool<Runs>, seat: &mut Seat, item: u32) -> Answer
     requires caller { IsCallerOf pool.now.ready seat.old.caller }
+    requires queue { seat.old.queue < length pool.now.workers }
     requires item { item < seat.old.sender.layout.items }
     ensures caller { IsCallerOf pool.now.ready seat.new.caller }
+    ensures queue { seat.new.queue ≡ seat.old.queue }
     ensures same { IsSame seat.old.sender seat.new.sender }
     ensures accepted { accepted (own seat.old.sender.number seat.new.sender.seen) ≡ accepted (own seat.old.sender.number seat.old.sender.seen)
         ++ queued_number item result }
 {
     queued_is_accepted();
     let answer = seat.sender.queue(rt, item);
-    let _ = pool.wake(rt, &mut seat.caller, seat.queue, answer);
+    let Ok(()) = pool.wake(rt, &mut seat.caller, seat.queue, answer) else {
+        unreachable!()
+    };
     answer
 }
 
 // What a thread does: two queueings, one after the other.
 fn queue_two<R: Wait>(rt: &R, pool: &Pool<Runs>, mut seat: Seat, one: u32, two: u32) -> Told
     requires caller { IsCallerOf pool.now.ready seat.caller }
+    requires queue { seat.queue < length pool.now.workers }
     requires one { one < seat.sender.layout.items }
     requires two { two < seat.sender.layout.items }
     requires new { seat.sender.seen ≡ [] }
@@ -78,7 +83,7 @@ fn queue_both<R: Threads + Wait + Sync>(
     pool: &Pool<Runs>,
     line: Line,
 ) -> ((Told, Told), Sender)
-    requires { IsNewLine pool.now.ready line }
+    requires { IsNewLine pool.now line }
     ensures { HaveQueued line.first.sender.queue result.0.0 result.0.1 }
 {
     let Line {
@@ -89,11 +94,13 @@ fn queue_both<R: Threads + Wait + Sync>(
     let told = join(
         rt,
         move ||
-            requires { IsCallerOf pool.now.ready first.caller × (2 ≤ first.sender.layout.items) × (first.sender.seen ≡ []) }
+            requires { IsCallerOf pool.now.ready first.caller × (first.queue < length pool.now.workers)
+                × (2 ≤ first.sender.layout.items) × (first.sender.seen ≡ []) }
             ensures { QueuedBoth 0 1 first result }
         { queue_two(rt, pool, first, 0, 1) },
         move ||
-            requires { IsCallerOf pool.now.ready second.caller × (4 ≤ second.sender.layout.items) × (second.sender.seen ≡ []) }
+            requires { IsCallerOf pool.now.ready second.caller × (second.queue < length pool.now.workers)
+                × (4 ≤ second.sender.layout.items) × (second.sender.seen ≡ []) }
             ensures { QueuedBoth 2 3 second result }
         { queue_two(rt, pool, second, 2, 3) },
     );
@@ -102,14 +109,17 @@ fn queue_both<R: Threads + Wait + Sync>(
 
 // Queues the stop item, behind all that its queue has accepted.
 fn stop<R: Wait>(rt: &R, pool: &Pool<Runs>, caller: &mut Caller, queue: u32, mut sender: Sender)
-    requires { IsCallerOf pool.now.ready caller.old }
+    requires caller { IsCallerOf pool.now.ready caller.old }
+    requires queue { queue < length pool.now.workers }
     ensures { IsCallerOf pool.now.ready caller.new }
 {
     for _ in rt.forever() {
         match sender.request_stop(1) {
             Answer::Contended => {}
             answer => {
-                let _ = pool.wake(rt, caller, queue, answer);
+                let Ok(()) = pool.wake(rt, caller, queue, answer) else {
+                    unreachable!()
+                };
                 return;
             }
         }
@@ -125,19 +135,20 @@ pub(crate) fn queue_all<R: Threads + Wait + Sync>(
     two: Line,
 ) -> ((Told, Told), (Told, Told))
     requires caller { IsCallerOf pool.now.ready caller }
-    requires one { IsNewLine pool.now.ready one }
-    requires two { IsNewLine pool.now.ready two }
+    requires queues { 2 ≤ length pool.now.workers }
+    requires one { IsNewLine pool.now one }
+    requires two { IsNewLine pool.now two }
     ensures one { HaveQueued one.first.sender.queue result.0.0 result.0.1 }
     ensures two { HaveQueued two.first.sender.queue result.1.0 result.1.1 }
 {
     let ((told_one, last_one), (told_two, last_two)) = join(
         rt,
         move ||
-            requires { IsNewLine pool.now.ready one }
+            requires { IsNewLine pool.now one }
             ensures { HaveQueued one.first.sender.queue result.0.0 result.0.1 }
         { queue_both(rt, pool, one) },
         move ||
-            requires { IsNewLine pool.now.ready two }
+            requires { IsNewLine pool.now two }
             ensures { HaveQueued two.first.sender.queue result.0.0 result.0.1 }
         { queue_both(rt, pool, two) },
     );
