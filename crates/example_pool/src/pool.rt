@@ -208,6 +208,8 @@ fn meet(book: &mut Book, first: &mut Sender, second: &mut Sender)
     requires { (first.old.queue ≡ book.old.queue) × (second.old.queue ≡ book.old.queue) }
     ensures same { (book.new.queue ≡ book.old.queue) × (book.new.layout ≡ book.old.layout) }
     ensures senders { (first.new.queue ≡ first.old.queue) × (second.new.queue ≡ second.old.queue) }
+    ensures own_first { own first.old.number first.new.seen ≡ own first.old.number first.old.seen }
+    ensures own_second { own second.old.number second.new.seen ≡ own second.old.number second.old.seen }
     ensures accepted { accepted book.new.seen ≡ accepted book.old.seen }
     ensures of_worker { IsQuiet 3 book.old.seen → IsQuiet 3 book.new.seen }
     ensures of_first { accepted (own first.old.number book.new.seen) ≡ accepted (own first.old.number first.old.seen) }

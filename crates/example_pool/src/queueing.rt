@@ -4,12 +4,12 @@ ghost use Rattle.wq_pool.specs.History.{accepted};
 ghost use Rattle.wq_pool.specs.Seen.{own};
 ghost use Rattle.wq_pool.specs.Laws.{queued_number};
 ghost use Rattle.wq_pool.specs.Known.{IsSame, IsCallerOf};
-ghost use Rattle.example_pool.specs.Ended.{IsNewLine, QueuedBoth, HaveQueued};
+ghost use Rattle.example_pool.specs.Ended.{IsNewLine, queueing, QueuedBoth, HaveQueued};
 
 use crate::work::Runs;
 use std::sync::Wait;
 use std::thread::{Threads, join};
-use wq_live::{Answer, Sender, queued_is_accepted};
+use wq_live::{Answer, Sender, own_events_grow, queued_is_accepted};
 use wq_pool::{Caller, Pool};
 
 /// A sender, and what its two queueings were answered.
@@ -39,7 +39,7 @@ pub(crate) struct Line {
     pub(crate) last: Sender,
 }
 
-// One queueing. Where it wakes the queue, this is announced, so that a worker picks it.
+// One queueing, whose answer is what the sender then did. Where it wakes the queue, this is announced, so that a worker picks it.
 fn queue<R: Wait>(rt: &R, pool: &Pool<Runs>, seat: &mut Seat, item: u32) -> Answer
     requires caller { IsCallerOf pool.now.ready seat.old.caller }
     requires queue { seat.old.queue < length pool.now.workers }
@@ -47,10 +47,13 @@ fn queue<R: Wait>(rt: &R, pool: &Pool<Runs>, seat: &mut Seat, item: u32) -> Answ
     ensures caller { IsCallerOf pool.now.ready seat.new.caller }
     ensures queue { seat.new.queue ≡ seat.old.queue }
     ensures same { IsSame seat.old.sender seat.new.sender }
+    ensures events { own seat.old.sender.number seat.new.sender.seen ≡ own seat.old.sender.number seat.old.sender.seen
+        ++ queueing seat.old.sender.number item result }
     ensures accepted { accepted (own seat.old.sender.number seat.new.sender.seen) ≡ accepted (own seat.old.sender.number seat.old.sender.seen)
         ++ queued_number item result }
 {
     queued_is_accepted();
+    own_events_grow();
     let answer = seat.sender.queue(rt, item);
     let Ok(()) = pool.wake(rt, &mut seat.caller, seat.queue, answer) else {
         unreachable!()
