@@ -1,6 +1,6 @@
 -- A destroy that is tried again where something was left.
-use Rattle.wq_race.proofs.Common.{◌∙◌, IsRunning, IsLegal, WorkerState, BookState, Idle, HasGoneOn, HasEnded, worker_still, worker_on}
-use Rattle.wq_race.proofs.Serving.{quiet_still, quiet_on}
+use Rattle.wq_race.proofs.Common.{◌∙◌, IsRunning, IsLegal, WorkerState, BookState, Idle, HasEnded, worker_still, worker_on}
+use Rattle.wq_race.proofs.Serving.{HasGoneOn, quiet_still, quiet_on}
 
 pub goes_still : (a : WorkerState Idle) → ¬ IsRunning a.seen → IsLegal a.layout a.seen → HasGoneOn a a
 goes_still a idle legal = record { same = worker_still a; quiet = quiet_still a.number a.seen; idle = idle; legal = legal }

@@ -3,7 +3,7 @@ use Rattle.wq_race.proofs.Common.{◌≡◌, ◌≢◌, ℕ, ◌+◌, ◌==◌, 
 use Rattle.wq_race.proofs.Common.{append-nil, filter_map-append, Event, Close, End, IsRunning, is_close, is_drain, shut, begun, ended, ended_by, stop_number}
 use Rattle.wq_race.proofs.Common.{IsLegal}
 use Rattle.wq_race.proofs.Common.{IsComplete, owner_seat, seat_of, own, count_same, is_chain, is_chain_busy, is_ours, taking, Follows, WorkerState, Moves}
-use Rattle.wq_race.proofs.Common.{count_by-append, quiet_taking, Idle, BookState, IsLedgerOf, HasServed, HasGoneOn, HasEnded, or_parts, chain_own}
+use Rattle.wq_race.proofs.Common.{count_by-append, quiet_taking, Idle, BookState, IsLedgerOf, HasServed, HasEnded, or_parts, chain_own}
 use Rattle.wq_race.proofs.Common.{chain_busy_own, IsSameWorker, prefix_self, prefix_on, worker_still, worker_on, moves_same, own_more}
 use Rattle.wq_race.specs.Race.{QueuesNothing}
 use Rattle.wq_worker.specs.declared.ran.Ran.{Ran}
@@ -49,6 +49,13 @@ pub record Plain (n : ℕ) (a b : WorkerState Idle) : Type 0 where
   pub drains_is : count_by is_drain b.seen ≡ count_by is_drain a.seen
   pub idle : ¬ IsRunning b.seen
   pub legal : IsLegal a.layout a.seen → IsLegal b.layout b.seen
+
+-- the same worker went on: its sender made no event, its owner chained nothing, and nothing runs
+pub record HasGoneOn (old new : WorkerState Idle) : Type 0 where
+  pub same : IsSameWorker old new
+  pub quiet : QueuesNothing old.number old.seen new.seen
+  pub idle : ¬ IsRunning new.seen
+  pub legal : IsLegal new.layout new.seen
 
 pub plain_still : (a : WorkerState Idle) → ¬ IsRunning a.seen → Plain 0 a a
 plain_still a idle = record {

@@ -4,7 +4,7 @@ use Rattle.std.specs.Fmt.{decimal}
 use mathlib.Core.List.{IsPrefix}
 use Rattle.wq_words.specs.declared.event.Event.{Event}
 use Rattle.wq_words.specs.declared.event.Event.TheVariants.{Hold, Push}
-use Rattle.wq_words.specs.History.{accepted, ended, is_close, IsRunning}
+use Rattle.wq_words.specs.History.{accepted, ended, is_close}
 use Rattle.wq_words.specs.Legal.{IsLegal, IsComplete}
 use Rattle.wq_words.specs.Seen.{own, owner_seat}
 use Rattle.wq_worker.specs.State.{WorkerState, items_among, IsSameWorker}
@@ -96,15 +96,8 @@ pub record AllKnown (seen : List Event) (olds news : List Known) : Type 0 where
   pub count : length news ≡ length olds
   pub each : (i : ℕ) (d : Known) → i < length olds → IsKnown seen (slice_index_or olds i d) (slice_index_or news i d)
 
--- The same worker went on: its sender made no event, its owner chained nothing, and nothing runs.
-pub record HasGoneOn (old new : WorkerState Idle) : Type 0 where
-  pub same : IsSameWorker old new
-  pub quiet : QueuesNothing old.number old.seen new.seen
-  pub idle : ¬ IsRunning new.seen
-  pub legal : IsLegal new.layout new.seen
-
--- Such a worker, whose queue is destroyed: all that was accepted has ended, the work ran the items among it, and the book has
--- the ledger of the worker's own sender.
+-- The queue of this worker was destroyed: its sender made no event, its owner chained nothing, all that was accepted has ended,
+-- the work ran the items among it, and the book has the ledger of the worker's own sender.
 pub record HasEnded (old : WorkerState Idle) (work : Idle) (book : BookState) : Type 0 where
   pub queue_is : book.queue ≡ old.queue
   pub layout_is : book.layout ≡ old.layout

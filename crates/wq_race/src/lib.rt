@@ -8,7 +8,7 @@ mod team;
 mod threads;
 
 pub use idle::Idle;
-pub use outcome::{Outcome, enter, enter_all, is_balanced, queued_by};
+pub use outcome::{Outcome, enter, enter_all, queued_by};
 pub use race::{
     RaceError, Serves, Serving, queue_all, queue_item, queue_stop, run_plan, run_team, stop,
 };

@@ -111,8 +111,8 @@ pub fn queued_by(senders: &[Sender]) -> u128
     queued
 }
 
-/// Whether the ledgers balance.
-pub fn is_balanced(book: &Book, ledgers: &[Ledger]) -> bool
+// Whether the ledgers balance.
+fn is_balanced(book: &Book, ledgers: &[Ledger]) -> bool
     requires { All (IsLedgerOf book.now.seen) ledgers.now }
     ensures { MatchBool result ((totals : Totals) × Balances book.now ledgers.now totals) ((fault : Unbalanced) × IsUnbalanced book.now ledgers.now fault) }
 {

@@ -1,4 +1,4 @@
-use Rattle.wq_race.proofs.Common.{HasGoneOn}
+use Rattle.wq_race.proofs.Serving.{HasGoneOn}
 use Rattle.wq_race.proofs.outcome.destroy.Given as goal
 
 abbrev pub invariant-loop : goal.invariant-loop
