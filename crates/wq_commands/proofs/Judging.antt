@@ -3,12 +3,12 @@ use Rattle.std.proofs.Common.{◌≡◌, ℕ, List, Bool, Option, Some, None, If
 use Rattle.std.specs.Prelude.{Result, Ok, Err, IfOk, IfErr, IsOkAnd, MatchResult}
 use Rattle.wq_text.specs.declared.fault.ScriptError.{ScriptError}
 use Rattle.wq_recording.specs.declared.finding.Finding.{Finding}
-use Rattle.wq_recording.specs.Checking.{IsFoundOf}
+use Rattle.wq_recording.specs.Checking.{IsFoundOf, IsRefusedFor}
 use Rattle.wq_subcommand.specs.declared.failure.Failure.{Failure}
 use Rattle.wq_subcommand.specs.declared.failure.Failure.TheVariants as failure
-use Rattle.wq_subcommand.specs.Ending.{WritesPart, Fails}
-use Rattle.wq_subcommand.proofs.Endings.{unmade_none, fails_unmade, fails_unwritten}
-use Rattle.wq_commands.specs.Judged.{WritesFinding, Says, IsSaid, HasNoFinding}
+use Rattle.wq_subcommand.specs.Ending.{WritesPart, IsUnmade, Fails}
+use Rattle.wq_subcommand.proofs.Endings.{fails_unmade, fails_unwritten}
+use Rattle.wq_commands.specs.Judged.{WritesFinding, Says, IsSaid}
 
 pub judges_at_end : (wants_drained : Bool) (status : ℕ) (remaining : Option (List ℕ))
     (finding : Result Finding (Failure ScriptError)) (before after : Option (List ℕ))
@@ -20,12 +20,12 @@ judges_at_end wants_drained status (Some bytes) (Err cause) before after found s
 
 pub fails_unsaid : (remaining : Option (List ℕ)) (finding : Result Finding (Failure ScriptError)) (before after : Option (List ℕ)) (cause : Failure ScriptError)
     → IfOk finding (λ f. IfSome remaining (λ bytes. IsFoundOf bytes f))
-    → IfErr finding (λ f. IfSome remaining (λ bytes. HasNoFinding bytes f))
+    → IfErr finding (λ f. IfSome remaining (λ bytes. IsUnmade IsRefusedFor bytes f))
     → MatchResult finding (λ f. (cause ≡ failure.Unwritable) × WritesPart f.text.items before after) (λ f. cause ≡ f)
-    → IfSome remaining (λ bytes. Fails Says HasNoFinding bytes before after cause)
+    → IfSome remaining (λ bytes. Fails Says IsRefusedFor bytes before after cause)
 fails_unsaid None finding before after cause found none is = tt
 fails_unsaid (Some bytes) (Ok f) before after cause found none is =
-    fails_unwritten Says HasNoFinding bytes f.text.items before after cause (record { finding = f; found = found; output_is = refl }) is
+    fails_unwritten Says IsRefusedFor bytes f.text.items before after cause (record { finding = f; found = found; output_is = refl }) is
 fails_unsaid (Some bytes) (Err f) before after cause found none is =
-    subst (Fails Says HasNoFinding bytes before after) (sym is)
-    (fails_unmade Says HasNoFinding bytes before after f (unmade_none HasNoFinding bytes f (λ never. never) none))
+    subst (Fails Says IsRefusedFor bytes before after) (sym is)
+    (fails_unmade Says IsRefusedFor bytes before after f none)

@@ -3,12 +3,11 @@ use Rattle.std.specs.Prelude.{◌≡◌, ℕ, ◌==◌, Bool, ◌&&◌, ◌||◌
 use Rattle.std.specs.Io.KnownBytes.{Appends}
 use Rattle.wq_text.specs.declared.fault.ScriptError.{ScriptError}
 use Rattle.wq_recording.specs.declared.finding.Finding.{Finding}
-use Rattle.wq_recording.specs.Checking.{IsFoundOf, IsRefusedFor}
+use Rattle.wq_recording.specs.Checking.{IsFoundOf}
 use Rattle.wq_recording.specs.declared.error.CheckError.{CheckError}
 use Rattle.wq_recording.specs.declared.error.CheckError.TheVariants as check_errors
 use Rattle.wq_subcommand.specs.Failure.{of_read_error, of_parse_error}
 use Rattle.wq_subcommand.specs.declared.failure.Failure.{Failure}
-use Rattle.wq_subcommand.specs.declared.failure.Failure.TheVariants as failure
 
 -- all is legal and, if that is asked for, nothing is left
 abbrev pub passes : Bool → Finding → Bool
@@ -32,13 +31,6 @@ pub record Says (text output : List ℕ) : Type 0 where
   pub finding : Finding
   pub found : IsFoundOf text finding
   pub output_is : output ≡ finding.text.items
-
--- nothing is found of the text: it is refused for this, or memory was wanting, or the reader failed
-abbrev pub HasNoFinding : List ℕ → Failure ScriptError → Type 0
-HasNoFinding text (failure.Refused refusal) = IsRefusedFor text refusal
-HasNoFinding text failure.Memory = Unit {0}
-HasNoFinding text failure.Unreadable = Unit {0}
-HasNoFinding text _ = ⊥
 
 -- nothing is found for this error
 abbrev pub of_check_error : CheckError → Failure ScriptError

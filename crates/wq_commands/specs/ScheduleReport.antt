@@ -7,8 +7,6 @@ use Rattle.wq_text.specs.Text.{Spells, IsRefusal}
 use Rattle.wq_text.specs.Turn.{schedule_lines}
 use Rattle.wq_meaning.specs.ScheduleOutput.{IsScheduleOutput}
 use Rattle.wq_recording.specs.HistoryText.{IsRecordingOf}
-use Rattle.wq_subcommand.specs.declared.failure.Failure.{Failure}
-use Rattle.wq_subcommand.specs.declared.failure.Failure.TheVariants as failure
 
 -- the text spells a schedule, and these are the bytes of its output
 pub record Replays (text output : List ℕ) : Type 0 where
@@ -22,8 +20,6 @@ pub record Records (text recording : List ℕ) : Type 0 where
   pub spells : Spells (schedule_lines text) text (schedule_layout schedule) (turns_of schedule)
   pub recording_is : IsRecordingOf (schedule_layout schedule) (turns_of schedule) recording
 
--- the text has no output: it is refused for this, or memory was wanting
-abbrev pub HasNoOutput : List ℕ → Failure ScriptError → Type 0
-HasNoOutput text (failure.Refused refusal) = IsRefusal (schedule_lines text) text refusal
-HasNoOutput text failure.Memory = Unit {0}
-HasNoOutput text _ = ⊥
+-- the text has no output, since it is refused for this
+abbrev pub HasNoOutput : List ℕ → ScriptError → Type 0
+HasNoOutput text refusal = IsRefusal (schedule_lines text) text refusal

@@ -1,12 +1,12 @@
 //! `wqrun check`: a recording's bytes in, what is found of it out.
 ghost use Rattle.std.specs.Prelude.{◌≡◌, ◌≢◌, ◌⊎◌, IfOk, IfErr, IfSome, IsOkAnd, MatchResult};
-ghost use Rattle.wq_recording.specs.Checking.{IsFoundOf};
+ghost use Rattle.wq_recording.specs.Checking.{IsFoundOf, IsRefusedFor};
 ghost use Rattle.wq_text.specs.declared.fault.ScriptError.{ScriptError};
 ghost use Rattle.wq_subcommand.specs.declared.failure.Failure.{Failure as Cause};
 ghost use Rattle.wq_subcommand.specs.declared.failure.Failure.TheVariants.{Unwritable};
 ghost use Rattle.wq_subcommand.specs.Failure.{status_of};
-ghost use Rattle.wq_subcommand.specs.Ending.{Fails, IsUntouched, WritesPart};
-ghost use Rattle.wq_commands.specs.Judged.{WritesFinding, Says, IsSaid, HasNoFinding, of_check_error};
+ghost use Rattle.wq_subcommand.specs.Ending.{Fails, IsUnmade, IsUntouched, WritesPart};
+ghost use Rattle.wq_commands.specs.Judged.{WritesFinding, Says, IsSaid, of_check_error};
 
 use std::alloc::Global;
 use std::io::{BufRead, Write};
@@ -26,7 +26,7 @@ fn failure_of(error: CheckError) -> Failure
 // What is found of the recording that a reader gives.
 fn read_finding<B: BufRead>(alloc: Global, reader: &mut B) -> Result<Finding, Failure>
     ensures found { IfOk result (λ finding. IfSome (B.remaining reader.old) (λ bytes. IsFoundOf bytes finding)) }
-    ensures none { IfErr result (λ cause. IfSome (B.remaining reader.old) (λ bytes. HasNoFinding bytes cause)) }
+    ensures none { IfErr result (λ cause. IfSome (B.remaining reader.old) (λ bytes. IsUnmade IsRefusedFor bytes cause)) }
 {
     check(alloc, reader).map_err(failure_of)
 }
@@ -79,7 +79,7 @@ pub fn check_main<B: BufRead + Drop, W: Write, F: Write>(
     ensures judged { (result ≡ 0) ⊎ (result ≡ 4) → IfSome (B.remaining reader)
         (λ bytes. WritesFinding wants_drained bytes result (W.contents writer.old) (W.contents writer.new)) }
     ensures failed { result ≢ 0 → result ≢ 4 → (cause : Cause ScriptError) × (result ≡ status_of cause) × IsUntouched cause writer.old writer.new
-        × IfSome (B.remaining reader) (λ bytes. Fails Says HasNoFinding bytes (W.contents writer.old) (W.contents writer.new) cause) }
+        × IfSome (B.remaining reader) (λ bytes. Fails Says IsRefusedFor bytes (W.contents writer.old) (W.contents writer.new) cause) }
     ensures status { (result ≡ 0) ⊎ ((result ≡ 1) ⊎ ((result ≡ 3) ⊎ (result ≡ 4))) }
 {
     let finding = read_finding(alloc, &mut reader);

@@ -1,6 +1,6 @@
 //! `wqrun script`: a script's bytes in, its report's bytes out.
 ghost use Rattle.std.specs.Prelude.{◌≡◌, IfOk, IfErr};
-ghost use Rattle.wq_subcommand.specs.Ending.{IsUnmade};
+ghost use Rattle.wq_subcommand.specs.Ending.{LacksOutput};
 ghost use Rattle.wq_commands.specs.Report.{Reports, HasNoReport};
 
 use std::alloc::Global;

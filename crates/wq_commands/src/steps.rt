@@ -1,6 +1,6 @@
 //! `wqrun steps`: a schedule's bytes in, its output's bytes out.
 ghost use Rattle.std.specs.Prelude.{◌≡◌, IfOk, IfErr};
-ghost use Rattle.wq_subcommand.specs.Ending.{IsUnmade};
+ghost use Rattle.wq_subcommand.specs.Ending.{LacksOutput};
 ghost use Rattle.wq_commands.specs.ScheduleReport.{Replays, HasNoOutput};
 
 use crate::script::TEXT_BYTES;

@@ -1,14 +1,11 @@
 -- What the program makes of a plan's text.
 use Rattle.std.specs.Prelude.{◌≡◌, ℕ, List, take}
 use Rattle.wq_plan.specs.declared.plan.Plan.{Plan}
-use Rattle.wq_plan.specs.declared.plan_text.PlanError.{PlanError}
-use Rattle.wq_plan.specs.PlanText.{SpellsPlan, IsNoPlan}
+use Rattle.wq_plan.specs.PlanText.{SpellsPlan}
 use Rattle.wq_race.specs.declared.outcome.Outcome.{Outcome}
 use Rattle.wq_race.specs.Outcome.{outcome_line, IsWhole, TellsRace}
 use Rattle.wq_pool_plan.specs.Race.{IsLone}
 use Rattle.wq_pool_plan.specs.Outcome.{TellsPlan}
-use Rattle.wq_subcommand.specs.declared.failure.Failure.{Failure}
-use Rattle.wq_subcommand.specs.declared.failure.Failure.TheVariants as failure
 
 -- The text spells a plan, and this is the line of its outcome. Where one worker has one queue, each of the plan's items was
 -- accepted once and ran once, and the outcome tells of that queue's history, book and ledgers, which balance; any other outcome
@@ -21,12 +18,6 @@ pub record Races (text line : List ℕ) : Type 0 where
   pub told : IsLone plan → TellsRace plan outcome
   pub pooled : ¬ IsLone plan → TellsPlan plan outcome
   pub line_is : line ≡ outcome_line outcome
-
--- the text has no outcome: it is refused for this, or memory or a thread was wanting
-abbrev pub HasNoRace : List ℕ → Failure PlanError → Type 0
-HasNoRace text (failure.Refused refusal) = IsNoPlan text refusal
-HasNoRace text failure.Memory = Unit {0}
-HasNoRace text _ = ⊥
 
 -- as much of a reader's bytes as is read: one more than a plan may have
 abbrev pub plan_read : List ℕ → List ℕ

@@ -1,11 +1,11 @@
 //! `wqrun live`: a plan's bytes in, the line of its outcome out.
 ghost use Rattle.std.specs.Prelude.{◌≡◌, ◌≢◌, ◌⊎◌, IfOk, IfErr, IfSome, string_bytes};
 ghost use Rattle.wq_plan.specs.declared.plan_text.PlanError.{PlanError as Refusal};
-ghost use Rattle.wq_plan.specs.PlanText.{SpellsPlan};
+ghost use Rattle.wq_plan.specs.PlanText.{SpellsPlan, IsNoPlan};
 ghost use Rattle.wq_subcommand.specs.declared.failure.Failure.{Failure as Cause};
 ghost use Rattle.wq_subcommand.specs.Failure.{status_of};
-ghost use Rattle.wq_subcommand.specs.Ending.{Writes, Fails, IsUntouched, IsUnmade};
-ghost use Rattle.wq_pool_plan.specs.RaceReport.{Races, HasNoRace, plan_read};
+ghost use Rattle.wq_subcommand.specs.Ending.{Writes, Fails, IsUntouched, LacksOutput, IsUnmade};
+ghost use Rattle.wq_pool_plan.specs.RaceReport.{Races, plan_read};
 
 use crate::race::run_live;
 use std::alloc::Global;
@@ -21,7 +21,7 @@ const PLAN_BYTES: u64 = 65_537;
 // The plan that a text spells.
 fn plan_of(alloc: Global, text: &[u8]) -> Result<Plan, Failure<PlanError>>
     ensures plan { IfOk result (SpellsPlan text.now) }
-    ensures none { IfErr result (HasNoRace text.now) }
+    ensures none { IfErr result (LacksOutput IsNoPlan text.now) }
 {
     match read_plan(alloc, text) {
         Ok(plan) => Ok(plan),
@@ -37,7 +37,7 @@ fn line_of<T: Threads + Wait + Sync>(
     text: &[u8],
 ) -> Result<String, Failure<PlanError>>
     ensures line { IfOk result (λ line. Races text.now (string_bytes line)) }
-    ensures none { IfErr result (HasNoRace text.now) }
+    ensures none { IfErr result (LacksOutput IsNoPlan text.now) }
 {
     let plan = plan_of(alloc, text)?;
     let Ok(outcome) = run_live(rt, alloc, plan) else {
@@ -55,7 +55,7 @@ fn read_line<T: Threads + Wait + Sync, R: Read + Drop>(
     reader: R,
 ) -> Result<Vec<u8>, Failure<PlanError>>
     ensures line { IfOk result (λ line. IfSome (R.remaining reader) (λ bytes. Races (plan_read bytes) line.items)) }
-    ensures none { IfErr result (λ cause. IfSome (R.remaining reader) (λ bytes. IsUnmade HasNoRace (plan_read bytes) cause)) }
+    ensures none { IfErr result (λ cause. IfSome (R.remaining reader) (λ bytes. IsUnmade IsNoPlan (plan_read bytes) cause)) }
 {
     let text = read_most(alloc, reader, PLAN_BYTES)?;
     let line = line_of(rt, alloc, &text)?;
@@ -75,7 +75,7 @@ pub fn live_main<T: Threads + Wait + Sync, R: Read + Drop, W: Write, F: Write>(
 ) -> u8
     ensures written { result ≡ 0 → IfSome (R.remaining reader) (λ bytes. Writes Races (plan_read bytes) (W.contents writer.old) (W.contents writer.new)) }
     ensures failed { result ≢ 0 → (cause : Cause Refusal) × (result ≡ status_of cause) × IsUntouched cause writer.old writer.new
-        × IfSome (R.remaining reader) (λ bytes. Fails Races HasNoRace (plan_read bytes) (W.contents writer.old) (W.contents writer.new) cause) }
+        × IfSome (R.remaining reader) (λ bytes. Fails Races IsNoPlan (plan_read bytes) (W.contents writer.old) (W.contents writer.new) cause) }
     ensures status { (result ≡ 0) ⊎ ((result ≡ 1) ⊎ (result ≡ 3)) }
 {
     end(read_line(rt, alloc, reader), writer, faults)

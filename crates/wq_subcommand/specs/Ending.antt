@@ -1,5 +1,5 @@
 -- What a subcommand makes of the bytes of a reader, for any language of texts: which outputs a text means, and which
--- failures say that it has none. `E` is what a text of the language is refused for.
+-- refusals say that it has none. `E` is what a text of the language is refused for.
 use Rattle.std.specs.Prelude.{◌≡◌, ℕ, List, Option}
 use mathlib.Core.List.{IsPrefix}
 use Rattle.std.specs.Io.KnownBytes.{Appends}
@@ -18,18 +18,22 @@ pub record WritesPart (output : List ℕ) (before after : Option (List ℕ)) : T
   pub begins : IsPrefix taken output
   pub appends : Appends before after taken
 
--- nothing was made of a text, for this cause, which is no failure of writing
-abbrev pub IsUnmade : {E : Type 0} → (List ℕ → Failure E → Type 0) → List ℕ → Failure E → Type 0
-IsUnmade HasNone text failure.Unwritable = ⊥
-IsUnmade HasNone text failure.Unreadable = Unit {0}
-IsUnmade HasNone text failure.Memory = Unit {0}
-IsUnmade HasNone text (failure.Refused refusal) = HasNone text (failure.Refused refusal)
+-- a text has no output, for this cause: it is refused for this, or memory or a thread was wanting
+abbrev pub LacksOutput : {E : Type 0} → (List ℕ → E → Type 0) → List ℕ → Failure E → Type 0
+LacksOutput IsRefused text (failure.Refused refusal) = IsRefused text refusal
+LacksOutput IsRefused text failure.Memory = Unit {0}
+LacksOutput IsRefused text _ = ⊥
+
+-- nothing was made of what a reader gave, for this cause: the reader failed, or the text has no output
+abbrev pub IsUnmade : {E : Type 0} → (List ℕ → E → Type 0) → List ℕ → Failure E → Type 0
+IsUnmade IsRefused text failure.Unreadable = Unit {0}
+IsUnmade IsRefused text cause = LacksOutput IsRefused text cause
 
 -- The output of a text was not, or not all, written for this cause: only where the text means an output was the writing begun,
 -- and then a beginning of that output was written.
-abbrev pub Fails : {E : Type 0} → (List ℕ → List ℕ → Type 0) → (List ℕ → Failure E → Type 0) → List ℕ → Option (List ℕ) → Option (List ℕ) → Failure E → Type 0
-Fails Means HasNone text before after failure.Unwritable = (output : List ℕ) × Means text output × WritesPart output before after
-Fails Means HasNone text before after cause = IsUnmade HasNone text cause
+abbrev pub Fails : {E : Type 0} → (List ℕ → List ℕ → Type 0) → (List ℕ → E → Type 0) → List ℕ → Option (List ℕ) → Option (List ℕ) → Failure E → Type 0
+Fails Means IsRefused text before after failure.Unwritable = (output : List ℕ) × Means text output × WritesPart output before after
+Fails Means IsRefused text before after cause = IsUnmade IsRefused text cause
 
 -- the text could not be read, or memory was wanting
 abbrev pub HasNoText : {E : Type 0} → Failure E → Type 0

@@ -3,7 +3,7 @@ ghost use Rattle.std.specs.Prelude.{◌≡◌, ◌≢◌, ◌⊎◌, ℕ, List, 
 ghost use Rattle.wq_text.specs.declared.fault.ScriptError.{ScriptError};
 ghost use Rattle.wq_subcommand.specs.declared.failure.Failure.{Failure as Cause};
 ghost use Rattle.wq_subcommand.specs.Failure.{status_of};
-ghost use Rattle.wq_subcommand.specs.Ending.{Writes, Fails, IsUntouched, IsUnmade};
+ghost use Rattle.wq_subcommand.specs.Ending.{Writes, Fails, IsUntouched, LacksOutput, IsUnmade};
 
 use crate::ending::end;
 use crate::failure::Failure;
@@ -16,8 +16,8 @@ pub trait Subcommand {
     // which outputs a text means
     ghost means: { List ℕ → List ℕ → Type 0 };
 
-    // which failures say that a text has none
-    ghost lacks: { List ℕ → Cause ScriptError → Type 0 };
+    // which refusals say that a text has none
+    ghost lacks: { List ℕ → ScriptError → Type 0 };
 
     // how many bytes of a reader are read
     ghost limit: { ℕ };
@@ -29,10 +29,10 @@ pub trait Subcommand {
     /// The output of a text.
     ///
     /// # Errors
-    /// Why the text has none, or want of memory or of a thread.
+    /// Why the text has none: a refusal of it, or want of memory or of a thread, and nothing else.
     fn output_of(&self, alloc: Global, text: &[u8]) -> Result<Vec<u8>, Failure>
         ensures output { IfOk result (λ output. means text.now output.items) }
-        ensures none { IfErr result (IsUnmade lacks text.now) };
+        ensures none { IfErr result (LacksOutput lacks text.now) };
 }
 
 // The output of the text that a reader gives.
