@@ -6,9 +6,10 @@ ghost use Rattle.wq_commands.specs.Report.{Reports, HasNoReport};
 use std::alloc::Global;
 use wq_script::{parse, run};
 use wq_subcommand::{Failure, Subcommand};
+use wq_text::MOST_BYTES;
 
-// One byte more than `MOST_BYTES` of `wq_text`, the most that a script or a schedule may have.
-pub(crate) const TEXT_BYTES: u64 = 1_048_577;
+// One byte more than a script or a schedule may have.
+pub(crate) const TEXT_BYTES: u64 = MOST_BYTES as u64 + 1;
 
 /// Runs a script; its output is the script's report.
 pub struct ScriptCommand;

@@ -5,4 +5,4 @@ mod plan;
 mod plan_text;
 
 pub use plan::Plan;
-pub use plan_text::{PlanError, read_plan};
+pub use plan_text::{MOST_PLAN_BYTES, PlanError, read_plan};

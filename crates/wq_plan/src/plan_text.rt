@@ -10,8 +10,8 @@ use std::alloc::Global;
 use thiserror::Error;
 use wq_words::MOST_TEXT_ITEMS;
 
-/// The longest text of a plan, in bytes.
-const MOST_BYTES: usize = 65_536;
+/// How many bytes a plan's text has at most.
+pub const MOST_PLAN_BYTES: usize = 65_536;
 
 const MOST_QUEUES: u64 = 8;
 
@@ -111,7 +111,7 @@ fn plan_of(value: &Value) -> Option<Plan>
 pub fn read_plan(alloc: Global, text: &[u8]) -> Result<Plan, PlanError>
     ensures exact { MatchResult result (SpellsPlan text.now) (IsNoPlan text.now) }
 {
-    if text.len() > MOST_BYTES {
+    if text.len() > MOST_PLAN_BYTES {
         return Err(PlanError::Size);
     }
     let value = match Value::from_slice(alloc, text) {

@@ -12,11 +12,11 @@ use std::alloc::Global;
 use std::io::{Read, Write};
 use std::sync::Wait;
 use std::thread::Threads;
-use wq_plan::{Plan, PlanError, read_plan};
+use wq_plan::{MOST_PLAN_BYTES, Plan, PlanError, read_plan};
 use wq_subcommand::{Failure, end, read_most};
 
-// One byte more than `MOST_BYTES` of `wq_plan`, the most that a plan may have, so that a longer one is seen to be too long.
-const PLAN_BYTES: u64 = 65_537;
+// One byte more than a plan may have, so that a longer one is seen to be too long.
+const PLAN_BYTES: u64 = MOST_PLAN_BYTES as u64 + 1;
 
 // The plan that a text spells.
 fn plan_of(alloc: Global, text: &[u8]) -> Result<Plan, Failure<PlanError>>
