@@ -38,21 +38,21 @@ queueing s k answer.Draining = Hold s k ∷ Back s k why.Draining ∷ []
 queueing s k answer.Contended = Hold s k ∷ Back s k why.Contended ∷ []
 
 -- by all that it has seen, sender s has made these two queueings, each with the answer that is told, and nothing else
-abbrev pub TellsOwn : ℕ → ℕ → ℕ → Told → Type 0
-TellsOwn s one two told = own s told.sender.seen ≡ queueing s one told.one ++ queueing s two told.two
+abbrev pub DidAsTold : ℕ → ℕ → ℕ → Told → Type 0
+DidAsTold s one two told = own s told.sender.seen ≡ queueing s one told.one ++ queueing s two told.two
 
 -- the same sender has queued these items: just those of them were accepted whose queueing was answered Queued, in this order
 pub record QueuedBoth (one two : ℕ) (seat : Seat) (told : Told) : Type 0 where
   pub same : IsSame seat.sender told.sender
-  pub tells : TellsOwn seat.sender.number one two told
+  pub tells : DidAsTold seat.sender.number one two told
   pub accepted_is : accepted (own seat.sender.number told.sender.seen) ≡ queued_number one told.one ++ queued_number two told.two
 
 -- the senders 0 and 1 of this queue have queued their items
 pub record HaveQueued (queue : QueueId) (first second : Told) : Type 0 where
   pub one_queue : (first.sender.queue ≡ queue) × (second.sender.queue ≡ queue)
   pub numbers : (first.sender.number ≡ 0) × (second.sender.number ≡ 1)
-  pub first_tells : TellsOwn 0 0 1 first
-  pub second_tells : TellsOwn 1 2 3 second
+  pub first_tells : DidAsTold 0 0 1 first
+  pub second_tells : DidAsTold 1 2 3 second
   pub of_first : accepted (own 0 first.sender.seen) ≡ queued_number 0 first.one ++ queued_number 1 first.two
   pub of_second : accepted (own 1 second.sender.seen) ≡ queued_number 2 second.one ++ queued_number 3 second.two
 
@@ -67,8 +67,8 @@ pub record RanAll (layout : Layout) (h : List Event) (queue : Ended) : Type 0 wh
   pub all_began : begun h ≡ accepted h
   pub all_ended : ended h ≡ begun h
   pub all_ran : queue.work.ran.items ≡ items_among layout (accepted h)
-  pub first_tells : TellsOwn 0 0 1 queue.first
-  pub second_tells : TellsOwn 1 2 3 queue.second
+  pub first_tells : DidAsTold 0 0 1 queue.first
+  pub second_tells : DidAsTold 1 2 3 queue.second
   pub of_first : accepted (own 0 h) ≡ queued_number 0 queue.first.one ++ queued_number 1 queue.first.two
   pub of_second : accepted (own 1 h) ≡ queued_number 2 queue.second.one ++ queued_number 3 queue.second.two
   pub of_worker : IsQuiet 3 h
