@@ -132,7 +132,7 @@ module _ (may : Idle → ℕ → List ℕ → Idle → Type 0) (asks_nothing : (
       ))) m
 
   owes_none : (k : ℕ) (a b : WorkerState Idle) → a.number ≢ owner_seat → ¬ IsRunning a.seen → OwesBy may stays a k b → ⊥
-  owes_none k a b not idle (owes f qs j rest es fs st split left opens told moved runs) = none_cons qs j rest (sym split
+  owes_none k a b not idle (owes f qs j rest es fs st split small left opens told moved runs) = none_cons qs j rest (sym split
       ∙ (started a k f b.work es not idle st).none)
 
   runs_plain : (r : Ran) (a b : WorkerState Idle) → a.number ≢ owner_seat → ¬ IsRunning a.seen → Runs may r a b → Plain 0 a b

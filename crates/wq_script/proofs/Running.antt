@@ -104,7 +104,7 @@ nothing_executes a b told = record {
 }
 
 pub owes_executes : (a b : WorkerState Lists) (k : ℕ) → OwesBy may_be stays a k b → ExecutesOne a b None
-owes_executes a b k (owes f qs j more es fs starts splits left is_open told moves runs) = record {
+owes_executes a b k (owes f qs j more es fs starts splits small left is_open told moves runs) = record {
   stepped = record { events = _; others = a.tries; moves = moves; lists = starts_lists a k f b.work es starts };
   quiet = λ wide z ready quiet begins.
       let e = exact wide a.number a.seen b.seen z _ a.tries quiet moves.adds begins in

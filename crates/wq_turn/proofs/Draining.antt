@@ -54,7 +54,7 @@ module _ {W : Type 0} where
   module _ (may : W → ℕ → List ℕ → W → Type 0) (gives : W → W → Type 0) where
     -- a queue that is shut owes nothing
     owes_open : (k : ℕ) (a b : WorkerState W) → OwesBy may gives a k b → ¬ IsShut a.seen
-    owes_open k a b (owes_one f qs j others es fs st split left opens told moved runs) = λ shut. let now = shut_from_IsShut a.seen shut in absurd (cc)
+    owes_open k a b (owes_one f qs j others es fs st split small left opens told moved runs) = λ shut. let now = shut_from_IsShut a.seen shut in absurd (cc)
 
     pauses_idle : (limit : ℕ) (a c : WorkerState W) → Pauses may gives limit a c → IsClosed a.seen → ¬ IsRunning a.seen → ¬ IsRunning c.seen
     pauses_idle limit a c (limited k steps just rests next) closed idle = rests

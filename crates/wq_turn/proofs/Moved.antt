@@ -24,7 +24,8 @@ module _ {W : Type 0} (P : WorkerState W → Type 0) (on : (es : List Event) (n 
     ends_keeps k a b (ends f es fs starts told moved idle) p = on (es ++ (fs ++ End k ∷ [])) 0 a b moved p
 
     owing_keeps : (k : ℕ) (a b : WorkerState W) → OwesBy may gives a k b → P a → P b
-    owing_keeps k a b (owes_one f qs j more es fs starts split left opens told moved runs) p = on (es ++ (fs ++ contended_of a.number j)) a.tries a b moved p
+    owing_keeps k a b (owes_one f qs j more es fs starts split small left opens told moved runs) p =
+        on (es ++ (fs ++ contended_of a.number j)) a.tries a b moved p
 
     pub runs_keeps : (r : Ran) (a b : WorkerState W) → RunsBy may gives r a b → P a → P b
     runs_keeps (Item k) a b t p = ends_keeps t.0 a b t.2 p

@@ -29,7 +29,7 @@ module _ {W : Type 0} (may : W → ℕ → List ℕ → W → Type 0) (gives : W
   executed (Owing k) a b is t = absurd is
 
   pub owing_runs : (k : ℕ) (a b : WorkerState W) → RunsBy may gives (Owing k) a b → IsRunning b.seen
-  owing_runs k a b (owe f qs j more es fs starts split left opens told moved runs) = runs_some b.seen k runs
+  owing_runs k a b (owe f qs j more es fs starts split small left opens told moved runs) = runs_some b.seen k runs
 
   pub was_ready : (a b : WorkerState W) (k : ℕ) → IsReady a k b → IsDue may gives a k b
   was_ready a b k r = record { steps = ready 0 k a a b (still a) r; idle = r.idle; next_is = r.next_is }

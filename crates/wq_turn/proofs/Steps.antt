@@ -52,7 +52,7 @@ module _ {W : Type 0} where
         (quiet_follows a.layout.items a.number (shut a.seen) f fs told).ended_none) moved
 
     owing_ends : (k : ℕ) (a b : WorkerState W) → OwesBy may gives a k b → EndsJust 0 a.seen b.seen
-    owing_ends k a b (owes f qs j more es fs starts split left opens told moved runs) =
+    owing_ends k a b (owes f qs j more es fs starts split small left opens told moved runs) =
         moved_ends (es ++ (fs ++ contended_of a.number j)) a.tries 0 a b
         (ended_parts es fs (contended_of a.number j) (starts_ended a k f b.work es starts)
         (quiet_follows a.layout.items a.number (shut a.seen) qs fs told).ended_none

@@ -53,7 +53,7 @@ nothing_left layout s n es v w a q legal shut idle (at_all now none) =
 
 module _ {W : Type 0} (may : W → ℕ → List ℕ → W → Type 0) (gives : W → W → Type 0) where
   owes_open : (k : ℕ) (a b : WorkerState W) → OwesBy may gives a k b → ¬ IsShut a.seen
-  owes_open k a b (owes f qs j more es fs st split left opens told moved runs) = λ shut. let now = shut_from_IsShut a.seen shut in absurd (cc)
+  owes_open k a b (owes f qs j more es fs st split small left opens told moved runs) = λ shut. let now = shut_from_IsShut a.seen shut in absurd (cc)
 
   -- a queue that is shut and has something left goes on
   pub executes : (r : Ran) (a b : WorkerState W) → IsShut a.seen → ¬ HasRunOut a.seen → RunsBy may gives r a b → IsExecution r × IsShut b.seen

@@ -82,7 +82,7 @@ module _ {W : Type 0} (may : W → ℕ → List ℕ → W → Type 0) (gives : W
   ends_seen k a b (ends f es fs st told moved rests) = moves_seen (es ++ (fs ++ End k ∷ [])) 0 a b moved
 
   owes_seen : (k : ℕ) (a b : WorkerState W) → OwesBy may gives a k b → IsPrefix a.seen b.seen
-  owes_seen k a b (owes f qs j rest es fs st split left opens told moved runs) = moves_seen _ a.tries a b moved
+  owes_seen k a b (owes f qs j rest es fs st split small left opens told moved runs) = moves_seen _ a.tries a b moved
 
   pub runs_by_seen : (r : Ran) (a b : WorkerState W) → RunsBy may gives r a b → IsPrefix a.seen b.seen
   runs_by_seen (Item k) a b t = ends_seen t.0 a b t.2

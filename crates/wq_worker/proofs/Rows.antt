@@ -79,7 +79,7 @@ module _ {W : Type 0} (may : W → ℕ → List ℕ → W → Type 0) (gives : W
   ends_same k a b (ends f es fs st told moved rests) = moves_same _ 0 a b moved
 
   owes_same : (k : ℕ) (a b : WorkerState W) → OwesBy may gives a k b → IsSameWorker a b
-  owes_same k a b (owes f qs j rest es fs st split left opens told moved runs) = moves_same _ a.tries a b moved
+  owes_same k a b (owes f qs j rest es fs st split small left opens told moved runs) = moves_same _ a.tries a b moved
 
   pub ends_idle : (k : ℕ) (a b : WorkerState W) → EndsBy may gives a k b → ¬ IsRunning b.seen
   ends_idle k a b (ends f es fs st told moved rests) = rests
@@ -88,7 +88,7 @@ module _ {W : Type 0} (may : W → ℕ → List ℕ → W → Type 0) (gives : W
   ends_legal k a b (ends f es fs st told moved rests) = moved.legal
 
   owes_legal : (k : ℕ) (a b : WorkerState W) → OwesBy may gives a k b → IsLegal b.layout b.seen
-  owes_legal k a b (owes f qs j rest es fs st split left opens told moved runs) = moved.legal
+  owes_legal k a b (owes f qs j rest es fs st split small left opens told moved runs) = moved.legal
 
   pub runs_by_same : (r : Ran) (a b : WorkerState W) → RunsBy may gives r a b → IsSameWorker a b
   runs_by_same (Item k) a b t = ends_same t.0 a b t.2
@@ -98,7 +98,7 @@ module _ {W : Type 0} (may : W → ℕ → List ℕ → W → Type 0) (gives : W
   runs_by_same (Owing k) a b t = owes_same k a b t
 
   owes_running : (k : ℕ) (a b : WorkerState W) → OwesBy may gives a k b → running b.seen ≡ Some k
-  owes_running k a b (owes f qs j rest es fs st split left opens told moved runs) = runs
+  owes_running k a b (owes f qs j rest es fs st split small left opens told moved runs) = runs
 
   pub runs_by_running : (r : Ran) (a b : WorkerState W) → RunsBy may gives r a b → LeavesRunning r b.seen
   runs_by_running (Item k) a b t = ends_idle t.0 a b t.2
@@ -138,7 +138,7 @@ module _ {W : Type 0} (may : W → ℕ → List ℕ → W → Type 0) (gives : W
       ))
 
   owes_phase : (k : ℕ) (a b : WorkerState W) → OwesBy may gives a k b → SamePhase a.seen b.seen
-  owes_phase k a b (owes f qs j rest es fs st split left opens told moved runs) =
+  owes_phase k a b (owes f qs j rest es fs st split small left opens told moved runs) =
       let last = contended_of a.number j in
       (owner_of_both a.number (es ++ (fs ++ last)) a.tries a.seen b.seen moved.adds).phase
       (omega (

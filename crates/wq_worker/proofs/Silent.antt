@@ -182,7 +182,7 @@ module _ {W : Type 0} (may : W → ℕ → List ℕ → W → Type 0) (gives : W
       moves_silent (es ++ (fs ++ End k ∷ [])) 0 a b (silent_on a.number es (fs ++ End k ∷ []) s.silent last) rests moved
 
   owes_none : (k : ℕ) (a b : WorkerState W) → a.number ≢ owner_seat → ¬ IsRunning a.seen → OwesBy may gives a k b → ⊥
-  owes_none k a b not idle (owes f qs j rest es fs st split left opens told moved runs) =
+  owes_none k a b not idle (owes f qs j rest es fs st split small left opens told moved runs) =
       none_cons qs j rest (sym split ∙ (started a k f b.work es not idle st).none)
 
   runs_silent : (r : Ran) (a b : WorkerState W) → a.number ≢ owner_seat → ¬ IsRunning a.seen → RunsBy may gives r a b → Silent a b

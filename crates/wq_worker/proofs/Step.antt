@@ -68,7 +68,7 @@ module _ {W : Type 0} (may : W → ℕ → List ℕ → W → Type 0) (gives : W
   advance_owes k tries ks js w w' old new left runs some (finished es none told b) =
       let e : length js ≡ 0 = ap (length {A = ℕ}) none in absurd (omega (arith, e, some))
   advance_owes k tries ks js w w' old new left runs some (contended qs j more es split is small opens told b) =
-      owes ks qs j more [] es (owed runs refl left refl) (split ∙ ap (λ (z : List ℕ). qs ++ z) is) is opens told
+      owes ks qs j more [] es (owed runs refl left refl) (split ∙ ap (λ (z : List ℕ). qs ++ z) is) small is opens told
       (moves_by (es ++ contended_of old.number j) tries tries ks js w w' old new b)
       ((advance_stays tries ks js old new (contended qs j more es split is small opens told b)).running_same ∙ runs)
 
@@ -117,14 +117,15 @@ module _ {W : Type 0} (may : W → ℕ → List ℕ → W → Type 0) (gives : W
       ends f to fs s.2 (told_before may a m k f fs g told) (moves_on to (fs ++ End j ∷ []) 0 0 a m b g.moves rest) none
 
   owes_fresh : (k j : ℕ) (a m b : WorkerState W) → Begins may a k m → ¬ IsRunning a.seen → OwesBy may gives m j b → OwesBy may gives a j b
-  owes_fresh k j a m b g idle (owes f qs i more es fs st split left opens told moved runs) =
+  owes_fresh k j a m b g idle (owes f qs i more es fs st split small left opens told moved runs) =
       let s = started k j f b.work es a m g idle st in let to = taking a.seen ++ Begin k ∷ [] in
       let own : List Event = contended_of a.number i in
       let rest1 : Moves (fs ++ contended_of m.number i) m.tries m b =
       subst (λ (z : List Event). Moves (z ++ (fs ++ contended_of m.number i)) m.tries m b) s.1 moved in
       let rest : Moves (fs ++ own) a.tries m b = subst (λ (z : ℕ). Moves (fs ++ own) z m b) g.moves.tries
       (subst (λ (z : ℕ). Moves (fs ++ contended_of z i) m.tries m b) g.moves.number rest1) in
-      owes f qs i more to fs s.2 split left (sym (shut_still may a m k g) ∙ opens) (told_before may a m k qs fs g told)
+      owes f qs i more to fs s.2 split (subst (λ (z : Layout). i < z.items) g.moves.layout small) left
+      (sym (shut_still may a m k g) ∙ opens) (told_before may a m k qs fs g told)
       (subst (λ (z : ℕ). Moves (to ++ (fs ++ own)) z a b) (omega arith) (moves_on to (fs ++ own) 0 a.tries a m b g.moves rest)) runs
 
   pub runs_fresh : (k : ℕ) (r : Ran) (a m b : WorkerState W) → Begins may a k m → ¬ IsRunning a.seen → RunsBy may gives r m b → RunsBy may gives r a b

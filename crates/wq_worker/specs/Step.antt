@@ -48,10 +48,10 @@ module _ {W : Type 0} (may : W → ℕ → List ℕ → W → Type 0) (gives : W
     ends : (f : List ℕ) (es fs : List Event) → StartsBy a k f b.work es → Follows a.layout.items a.number (shut a.seen) f fs
         → Moves (es ++ (fs ++ End k ∷ [])) 0 a b → ¬ IsRunning b.seen → EndsBy a k b
 
-  -- the execution of k is owed: the queueing of j was contended, and the list from j on is left
+  -- the execution of k is owed: the queueing of j, an item, was contended, and the list from j on is left
   pub data OwesBy (a : WorkerState W) (k : ℕ) (b : WorkerState W) : Type 0 where
-    owes : (f qs : List ℕ) (j : ℕ) (more : List ℕ) (es fs : List Event) → StartsBy a k f b.work es → f ≡ qs ++ j ∷ more → b.unqueued ≡ j ∷ more
-        → shut a.seen ≡ false → Follows a.layout.items a.number (shut a.seen) qs fs
+    owes : (f qs : List ℕ) (j : ℕ) (more : List ℕ) (es fs : List Event) → StartsBy a k f b.work es → f ≡ qs ++ j ∷ more → j < a.layout.items
+        → b.unqueued ≡ j ∷ more → shut a.seen ≡ false → Follows a.layout.items a.number (shut a.seen) qs fs
         → Moves (es ++ (fs ++ contended_of a.number j)) a.tries a b → running b.seen ≡ Some k → OwesBy a k b
 
   -- the worker goes from a to b with this answer
