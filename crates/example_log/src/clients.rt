@@ -87,7 +87,8 @@ fn stop_both<R: Wait>(
     pool: &ValuePool<Line, Writer>,
     last: Client,
 ) -> (ValueSender<Line>, ValueSender<Line>)
-    requires { IsNewClient pool.now.ready 2 0 last }
+    requires last { IsNewClient pool.now.ready 2 0 last }
+    requires queues { 2 ≤ length pool.now.workers }
     ensures access { StopsAlone last.access.known result.0.known }
     ensures errors { StopsAlone last.errors.known result.1.known }
 {
@@ -118,7 +119,8 @@ pub(crate) fn send_both<R: Threads + Wait + Sync>(
     first: Vec<Message>,
     second: Vec<Message>,
 ) -> SentAndStopped
-    requires { AreNewClients pool.now.ready clients }
+    requires clients { AreNewClients pool.now.ready clients }
+    requires queues { 2 ≤ length pool.now.workers }
     ensures { HaveSent clients first.items second.items result }
 {
     let Clients {
@@ -129,11 +131,11 @@ pub(crate) fn send_both<R: Threads + Wait + Sync>(
     let (first, second) = join(
         rt,
         move ||
-            requires { IsNewClient pool.now.ready 0 4 one }
+            requires { IsNewClient pool.now.ready 0 4 one × (2 ≤ length pool.now.workers) }
             ensures { HasSent one first.items result }
         { send_all(rt, pool, one, 0, first) },
         move ||
-            requires { IsNewClient pool.now.ready 1 8 two }
+            requires { IsNewClient pool.now.ready 1 8 two × (2 ≤ length pool.now.workers) }
             ensures { HasSent two second.items result }
         { send_all(rt, pool, two, ITEMS, second) },
     );

@@ -10,6 +10,9 @@ pub enum LogError {
     /// No memory could be had.
     #[error("no memory")]
     Memory,
+    /// No thread could be had for the workers.
+    #[error("no thread")]
+    Thread,
     /// This log's queue was not in the pool when all workers had ended.
     #[error("the queue {queue} is out")]
     Out { queue: u32 },

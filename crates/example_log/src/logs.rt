@@ -19,12 +19,10 @@ use crate::message::{Line, Message};
 use crate::writer::Writer;
 use std::alloc::Global;
 use std::sync::Wait;
-use std::thread::{Threads, join};
-use wq_pool::PoolFaultOf;
+use std::thread::{JoinHandle, Scope, Threads, scope, scope_env};
 use wq_value_pool::{Caller, NoGate, ValuePool, ValuePoolFault, ValueServed, nothing_is_queued};
 use wq_value_worker::{ValueBook, ValueWorker};
 use wq_words::Layout;
-use wq_worker::Station;
 
 // So many lines of each log are written at a time, where some are left at the end.
 const LINES: u32 = 1024;
@@ -81,41 +79,72 @@ fn new_logs(
     Ok((pool, callers, clients))
 }
 
-// Two workers write both logs in threads of their own, while the clients send.
-fn serve<R: Threads + Wait + Sync>(
-    rt: &R,
-    pool: &ValuePool<Line, Writer>,
+// A thread in which both workers write, where one could be made.
+fn start_workers<'s, E, R: Threads + Wait + Sync>(
+    scope: &Scope<'s, E>,
+    rt: &'s R,
+    pool: &'s ValuePool<Line, Writer>,
     mut workers: Vec<Caller>,
+) -> Result<JoinHandle<()>, LogError>
+    requires { All (IsCallerOf pool.now.ready) workers.items }
+{
+    scope
+        .spawn(
+            move ||
+                requires { All (IsCallerOf pool.now.ready) workers.items }
+            {
+                let Ok(()) = pool.run(rt, workers.as_mut_slice(), &NoGate) else {
+                    unreachable!()
+                };
+            },
+        )
+        .map_err(|_| LogError::Thread)
+}
+
+// The workers write while the clients send. Without a thread for the workers no client would come to its end, so none begins.
+fn write_and_send<'s, E, R: Threads + Wait + Sync>(
+    scope: &Scope<'s, E>,
+    rt: &'s R,
+    pool: &'s ValuePool<Line, Writer>,
+    workers: Vec<Caller>,
     clients: Clients,
     first: Vec<Message>,
     second: Vec<Message>,
 ) -> Result<SentAndStopped, LogError>
     requires workers { All (IsCallerOf pool.now.ready) workers.items }
     requires clients { AreNewClients pool.now.ready clients }
+    requires queues { 2 ≤ length pool.now.workers }
     ensures { IfOk result (HaveSent clients first.items second.items) }
 {
-    let (ran, sent) = join(
-        rt,
-        move ||
-            requires { All (IsCallerOf pool.now.ready) workers.items }
-        { pool.run(rt, workers.as_mut_slice(), &NoGate) },
-        move ||
-            requires { AreNewClients pool.now.ready clients }
-            ensures { HaveSent clients first.items second.items result }
-        { send_both(rt, pool, clients, first, second) },
-    );
-    ran?;
+    let writing = start_workers(scope, rt, pool, workers)?;
+    let sent = send_both(rt, pool, clients, first, second);
+    writing.join(rt);
     Ok(sent)
 }
 
-// Why a pool is given up that could not be taken apart. One of which something is left goes on instead.
-fn given_up<K: Station + Drop>(fault: PoolFaultOf<K>) -> LogError {
-    match fault {
-        PoolFaultOf::Out { queue, .. } | PoolFaultOf::Unfinished { queue, .. } => {
-            LogError::Out { queue }
-        }
-        PoolFaultOf::Memory { .. } => LogError::Memory,
-    }
+// Two workers write both logs in threads of their own, while the clients send.
+fn serve<R: Threads + Wait + Sync>(
+    rt: &R,
+    pool: &ValuePool<Line, Writer>,
+    workers: Vec<Caller>,
+    clients: Clients,
+    first: Vec<Message>,
+    second: Vec<Message>,
+) -> Result<SentAndStopped, LogError>
+    requires workers { All (IsCallerOf pool.now.ready) workers.items }
+    requires clients { AreNewClients pool.now.ready clients }
+    requires queues { 2 ≤ length pool.now.workers }
+    ensures { IfOk result (HaveSent clients first.items second.items) }
+{
+    scope(
+        scope_env(),
+        rt,
+        |scope| -> Result<SentAndStopped, LogError>
+            requires { All (IsCallerOf pool.now.ready) workers.items × AreNewClients pool.now.ready clients
+                × (2 ≤ length pool.now.workers) }
+            ensures { IfOk result (HaveSent clients first.items second.items) }
+        { write_and_send(scope, rt, pool, workers, clients, first, second) },
+    )
 }
 
 // Takes the pool apart. Where something is left of a queue it goes on.
@@ -131,7 +160,8 @@ fn finish<R: Wait>(rt: &R, pool: ValuePool<Line, Writer>) -> Result<Vec<Finished
         match pool.finish(LINES) {
             Ok(all) => return Ok(all),
             Err(ValuePoolFault::Unfinished { pool: same, .. }) => pool = same,
-            Err(fault) => return Err(given_up(fault)),
+            Err(ValuePoolFault::Out { queue, .. }) => return Err(LogError::Out { queue }),
+            Err(ValuePoolFault::Memory { .. }) => return Err(LogError::Memory),
         }
     }
     unreachable!()
@@ -174,7 +204,8 @@ fn served<R: Threads + Wait + Sync>(
 /// have ended the stop items follow, and the pool is taken apart: the log of accesses, and that of errors.
 ///
 /// # Errors
-/// `Memory` where no memory could be had, also for a line's place in its text; `Out` where a queue is not in the pool in the end.
+/// `Memory` where no memory could be had, also for a line's place in its text; `Thread` where none could be made for the workers,
+/// and then no message is sent; `Out` where a queue is not in the pool in the end.
 pub fn write<R: Threads + Wait + Sync>(
     rt: &R,
     alloc: Global,

@@ -1,5 +1,5 @@
 //! Clients, which send messages, and the stop items.
-ghost use Rattle.std.specs.Prelude.{◌≡◌, ◌<◌, ◌≤◌, ◌+◌, ◌++◌, [], ◌∷◌, Some, false, cond};
+ghost use Rattle.std.specs.Prelude.{◌≡◌, ◌<◌, ◌≤◌, ◌+◌, ◌++◌, [], ◌∷◌, Some, false, cond, length};
 ghost use Rattle.wq_value_pool.specs.Known.{IsSame, IsCallerOf};
 ghost use Rattle.wq_value_pool.specs.KnownWith.{BringsOrReturns, answer_of};
 ghost use Rattle.wq_values.specs.Answers.{Answers};
@@ -63,10 +63,13 @@ fn wake<R: Wait>(
     number: u32,
     answer: Answer,
 )
-    requires { IsCallerOf pool.now.ready caller.old }
+    requires caller { IsCallerOf pool.now.ready caller.old }
+    requires queue { number < length pool.now.workers }
     ensures { IsCallerOf pool.now.ready caller.new }
 {
-    let _ = pool.wake(rt, caller, number, answer);
+    let Ok(()) = pool.wake(rt, caller, number, answer) else {
+        unreachable!()
+    };
 }
 
 // Queues a line, and announces the queue where that wakes it. While an earlier line of the item waits, or others change the list,
@@ -82,6 +85,7 @@ fn queue<R: Wait>(
 ) -> bool
     requires item { item < sender.old.known.layout.items }
     requires caller { IsCallerOf pool.now.ready caller.old }
+    requires queue { number < length pool.now.workers }
     ensures same { IsSame sender.old.known sender.new.known }
     ensures caller { IsCallerOf pool.now.ready caller.new }
     ensures brought { own_lines sender.new ≡ own_lines sender.old ++ cond result (Some line ∷ []) [] }
@@ -115,6 +119,7 @@ fn send<R: Wait>(
     requires access { item < client.old.access.known.layout.items }
     requires errors { item < client.old.errors.known.layout.items }
     requires caller { IsCallerOf pool.now.ready client.old.caller }
+    requires queues { 2 ≤ length pool.now.workers }
     requires numbers { client.old.errors.known.number ≡ client.old.access.known.number }
     ensures same_access { IsSame client.old.access.known client.new.access.known }
     ensures same_errors { IsSame client.old.errors.known client.new.errors.known }
@@ -169,7 +174,8 @@ pub(crate) fn send_all<R: Wait>(
     first: u32,
     messages: Vec<Message>,
 ) -> Sent
-    requires { IsNewClient pool.now.ready client.access.known.number (first + 4) client }
+    requires client { IsNewClient pool.now.ready client.access.known.number (first + 4) client }
+    requires queues { 2 ≤ length pool.now.workers }
     ensures sent { HasSent client messages.items result }
 {
     let mut client = client;
@@ -199,6 +205,7 @@ pub(crate) fn stop<R: Wait>(
     mut sender: ValueSender<Line>,
 ) -> ValueSender<Line>
     requires caller { IsCallerOf pool.now.ready caller.old }
+    requires queue { number < length pool.now.workers }
     requires new { sender.known.seen ≡ [] }
     ensures caller { IsCallerOf pool.now.ready caller.new }
     ensures stops { StopsAlone sender.known result.known }
