@@ -35,7 +35,7 @@ class Some(tuple):
     """Texts that have to stand in what was written."""
 
 
-HELP = Some([b"Usage: wqrun [COMMAND]\n", b"Exit status:\n", b"/dev/stdin"])
+HELP = Some([b"Usage: wqrun [COMMAND]\n", b"  check ", b"Exit status:\n", b"  4  the recording is not legal", b"/dev/stdin"])
 
 ROWS = [
     # which text is read
@@ -81,8 +81,8 @@ ROWS = [
     # help and the version
     ("--help", 0, HELP, b""),
     ("help", 0, HELP, b""),
-    ("script --help", 0, Some([b"modify K D", b"Example:\n"]), b""),
-    ("steps --help", 0, Some([b"o turn K L", b"o rest", b"--history", b"Example:\n"]), b""),
+    ("script --help", 0, Some([b"arm K D", b"modify K D", b"begins with 'wq 2'", b"drain N drains an open\n", b"Example:\n"]), b""),
+    ("steps --help", 0, Some([b"o turn K L", b"o rest", b"begins with 'steps 2'", b"o drain, o resume", b"--history", b"Example:\n"]), b""),
     ("help live", 0, Some([b"workers, 1 to 8", b"Example:\n"]), b""),
     ("help check", 0, Some([b"--drained", b"trace 1", b"Example:\n"]), b""),
     ("--version", 0, b"wqrun 0.1.0\n", b""),

@@ -7,6 +7,7 @@ use crate::values::build_with_values;
 use crate::worker::build_worker;
 use std::alloc::{AllocError, Global};
 use std::fmt;
+use std::io::ErrorKind;
 use std::sync::Wait;
 use std::thread::Threads;
 use wq_commands::{HistoryCommand, ScriptCommand, StepsCommand, check_main};
@@ -16,6 +17,7 @@ use wq_delay::{Armed, Delay, Modified, NoRoom};
 use wq_live::{BuildError, build};
 use wq_machine::{Core, ReplayError, StepError, replay};
 use wq_pool_plan::live_main;
+use wq_recording::{CheckError, check};
 use wq_script::{ParseError, RunError, parse, run};
 use wq_subcommand::subcommand_main;
 use wq_words::Layout;
@@ -34,6 +36,7 @@ pub enum Call {
     Marks,
     Script(&'static str, &'static str),
     Main(Main, &'static str, &'static str),
+    Judge(&'static str, Option<u64>),
 }
 
 /// A subcommand.
@@ -87,8 +90,9 @@ pub const CALLS: &[(&str, Call)] = &[
     (
         "delays",
         Call::Script(
-            "wq 1\nitems 4\nsenders 2\narm 0 5\narm 1 5\narm 2 3\nqueue 0 0\nadvance 5\nrun 9\narm 3 0\narm 1 4294967296\nadvance 4\n",
-            "on table\non table\non table\nfalse pending\npushed 2 0 1\nran 2 0 1\ntrue first\nfalse too far\nfalse backwards\n",
+            "wq 1\nitems 4\nsenders 2\narm 0 5\narm 1 5\narm 2 3\nqueue 0 0\nadvance 5\nrun 9\narm 3 0\n\
+             arm 1 4294967296\nadvance 4\narm 2 7\nmodify 2 9\ncancel 2\n",
+            "on table\non table\non table\nfalse pending\npushed 2 0 1\nran 2 0 1\ntrue first\nfalse too far\nfalse backwards\non table\nmoved\ncancelled\n",
         ),
     ),
     (
@@ -137,6 +141,14 @@ pub const CALLS: &[(&str, Call)] = &[
             "trace 1\nitems 4\nqueue 3\nqueue 1\nstart 3\n",
             "legal\nmarks 3\nqueued 2\nstarted 1\nended 0\nwaiting 2\nmost waiting 2\nleft 3 1\n",
         ),
+    ),
+    (
+        "judge",
+        Call::Judge("history 1\nitems 20000\nsenders 20\n11 queue 12345\n", None),
+    ),
+    (
+        "words",
+        Call::Judge("trace 1\nitems 4\nqueue 3 of 6 words here\n", Some(3)),
     ),
     (
         "live",
@@ -345,6 +357,19 @@ fn run_main<T: Threads + Wait + Sync>(
     }
 }
 
+/// Judges a recording, which is legal, or whose line of this number has more words than any may. Want of memory for a line's bytes is
+/// an error of the reader, and of the text for its words, the checker or the finding.
+fn judge(alloc: Global, text: &str, faulty: Option<u64>) -> Said {
+    let mut reader = text.as_bytes();
+    match check(alloc, &mut reader) {
+        Ok(finding) => right(faulty.is_none() && finding.stop.is_none()),
+        Err(CheckError::Text(ParseError::Refused(fault))) => right(faulty == Some(fault.line)),
+        Err(CheckError::Text(ParseError::Memory)) => Said::Memory,
+        Err(CheckError::Read(error)) if error.kind() == ErrorKind::OutOfMemory => Said::Memory,
+        Err(CheckError::Read(_)) => Said::Wrong,
+    }
+}
+
 /// Makes a call.
 pub fn make<T: Threads + Wait + Sync>(rt: &T, alloc: Global, call: Call) -> Said {
     match call {
@@ -359,5 +384,6 @@ pub fn make<T: Threads + Wait + Sync>(rt: &T, alloc: Global, call: Call) -> Said
         Call::Marks => check_marks(alloc),
         Call::Script(text, report) => run_script(alloc, text, report),
         Call::Main(main, text, output) => run_main(rt, alloc, main, text, output),
+        Call::Judge(text, faulty) => judge(alloc, text, faulty),
     }
 }

@@ -1,6 +1,7 @@
 //! Checkers of recorded histories and traces: each cause, and what a report says.
 use crate::expect::expect_same;
 use std::alloc::Global;
+use std::fmt::Display;
 use std::process::Abort;
 use wq_check::EventError::{NoItem, NoSeat, NotAllowed};
 use wq_check::{
@@ -318,18 +319,46 @@ const DRAIN: &[Stage] = &[
 ];
 
 const WORDS: &[(Cause, &str)] = &[
+    (Cause::Pending, "pending"),
+    (Cause::Idle, "idle"),
+    (Cause::NotHeld, "not held"),
+    (Cause::Closed, "closed"),
     (Cause::Draining, "draining"),
     (Cause::NotDraining, "not draining"),
     (Cause::NeverDrained, "never drained"),
     (Cause::Open, "open"),
     (Cause::Runs(7), "runs 7"),
+    (Cause::NothingRuns, "nothing runs"),
+    (Cause::NotWaiting, "not waiting"),
+    (Cause::Next(7), "next 7"),
+    (Cause::NotEnded, "not ended"),
 ];
 
+fn expect_words<R: Abort, T: Display>(rt: &R, alloc: Global, of: &T, words: &str) {
+    let text = format!(in alloc; "{of}").expect(rt, "memory");
+    expect_same(rt, text.as_str(), words);
+}
+
 #[test]
-fn words_of_causes(rt: HostRuntime) {
+fn words_of_causes_and_errors(rt: HostRuntime) {
     for &(cause, words) in WORDS {
-        let text = format!(in rt.alloc(); "{cause}").expect(&rt, "memory");
-        expect_same(&rt, text.as_str(), words);
+        expect_words(&rt, rt.alloc(), &cause, words);
+    }
+    for &(error, words) in &[
+        (NoSeat, "no seat of the queue"),
+        (NoItem, "no number of the queue"),
+        (NotAllowed(Cause::Next(7)), "not allowed: next 7"),
+    ] {
+        expect_words(&rt, rt.alloc(), &error, words);
+    }
+    for &(error, words) in &[
+        (MarkError::NoItem, "no item of the queue"),
+        (
+            MarkError::NotAllowed(Cause::Pending),
+            "not allowed: pending",
+        ),
+    ] {
+        expect_words(&rt, rt.alloc(), &error, words);
     }
 }
 
