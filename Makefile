@@ -73,7 +73,7 @@ c-api: build
 # The calls that take memory, with each allocation refused in turn, as the gate does; a second, and the proof of the program that makes
 # them, which stands on nearly all crates. It wants a C compiler.
 memory:
-	cd crates/test_memory && rt run </dev/null
+	checks/build.py test_memory
 	checks/refused_memory.sh crates/test_memory/out/test_memory
 
 # The wrong bodies that the gate leaves out: after a gate on the same machine half an hour on two processors, else an hour.
@@ -87,7 +87,8 @@ controls:
 # Times a script of a megabyte, scripts of one command alone, executed items beside the same scheme in C, in one thread and in
 # several, items that bring values beside channels of Rust, and a pool beside others in C.
 bench: build library
-	cd crates/bench_queue && rt run
+	checks/build.py bench_queue
+	crates/bench_queue/out/bench_queue
 	bench/script.sh $(PROGRAM)
 	bench/commands.py $(PROGRAM)
 	bench/commands.py $(PROGRAM) 5 2 4096 65536

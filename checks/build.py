@@ -1,15 +1,18 @@
 #!/usr/bin/env python3
-"""Proves what the program wqrun stands on, and nothing else, side by side, and builds it: build.py.
+"""Proves programs, or libraries, and what they stand on, and nothing else, side by side, and builds them: build.py [CRATE..], wqrun
+where none is named.
 
-`rt` locks every crate below the one that it checks, so two checks in one tree wait for each other. Here each crate is proved in a tree
-of its own below out/: a copy of its sources and of those of the crates below it, with what these have built as hard links. `rt` goes by
-what files say and not by when they were written, so the crates below count as built there, and the crate counts as built once its own
-`out` is back in the repository. A crate starts when those below it are built, and the longer its chain of crates above it, the more of
-the processors it gets: the first of those that run gets two jobs, or more where it stands on no other crate or nothing else waits for
-a processor, and each other one runs on what those before it leave. A further job loads anew all that the crate stands on, which for the
-program takes longer than its proof.
+Each crate is proved by one `rattle build`. The library that it writes has what the crates above may cite and not how it was proved
+(--statements), so that these load little. A crate can start when those below it are built, and does so the sooner, the longer its chain
+of crates above it is. One at a time gets two jobs, or three where it stands on no other crate, and each other one a processor that is
+left. A further job loads anew all that the crate stands on, which for the program takes longer than its proof. A crate that was built
+from the same files, over the same libraries and by the same kit, is not proved again.
+
+The libraries that the commands of `rt` build are others, and hold the proofs. These stand below them, in crates/CRATE/out/rlib/statements:
+no other folder may have files of a library, by `rt ci`. Where `rt` builds its own anew, this one goes, and is built again by the next run.
 """
 import fcntl
+import hashlib
 import os
 import re
 import shutil
@@ -22,152 +25,200 @@ from concurrent.futures import FIRST_COMPLETED, ThreadPoolExecutor, wait
 from pathlib import Path
 
 TOP = Path(__file__).resolve().parent.parent
-TREES = TOP / "out"
-PROGRAM = "wqrun"
+CRATES = TOP / "crates"
 PARTS = ("src", "specs", "proofs")
+TARGET = "x86_64-unknown-linux-gnu"
+# what is built where nothing is named
+USUAL = "wqrun"
 PROCESSORS = len(os.sched_getaffinity(0))
-# room for one check
-MEMORY_OF_A_CRATE = 3 << 30
+# room for one job of a check
+MEMORY_OF_A_JOB = 3 << 30
 # before a crate's own lines all that it stands on is loaded, which takes about as long as the proof of so many of them
 LINES_OF_LOADING = 250
-# how much less of a processor a crate gets than the one before it, and the least that there is
-NICE_STEP, NICEST = 5, 15
+# how much less of a processor a crate of one job gets, where the one of more wants it too
+NICENESS = 5
 # the provers at work
 RUNNING = set()
-BEFORE = """Proves wqrun and what it stands on, {count} crates, side by side on {processors} processors, and builds it.
-From nothing that took 11 minutes by the clock on four processors, 30 minutes of them, where it was measured; a busy or
-slow machine takes up to three times as long, and where nothing has changed it takes some seconds. All that is said goes
-into {log}."""
+BEFORE = """Proves {names} and what it stands on, {count} crates, side by side on {processors} processors, and builds it. All that is said
+goes into {log}."""
+LASTS = """From nothing that took 16 minutes by the clock on four processors, 51 minutes of them, in a slow hour of a shared host. A
+busier or slower machine takes up to three times as long, and where nothing has changed it takes some seconds."""
 
 
-def named_crates():
-    """The crates of crates.txt, each with those of them that it names."""
-    rows = dict(re.findall(r"^(\w+):(.*)$", (TOP / "crates.txt").read_text(), re.M))
-    return {crate: [it for it in words.split() if it in rows] for crate, words in rows.items()}
+def rows():
+    """The crates of crates.txt, each with the libraries that it names: those of the repository, and those of the kit."""
+    words = {crate: row.split() for crate, row in re.findall(r"^(\w+)(?: staticlib)?:(.*)$", (TOP / "crates.txt").read_text(), re.M)}
+    own = {crate: [it for it in row if it in words] for crate, row in words.items()}
+    return own, {crate: ["std", *(it for it in row if it not in words)] for crate, row in words.items()}
 
 
-def with_below(named, crate):
-    """The crate behind all that it stands on, each behind those that it stands on itself."""
-    found = {low: None for it in named[crate] for low in with_below(named, it)}
-    return [*found, crate]
+OWN, OF_KIT = rows()
 
 
-def chains(named, crates):
+def with_below(crates):
+    """These crates behind all that they stand on, each behind those that it stands on itself."""
+    found = {}
+    for crate in crates:
+        found |= {low: None for low in with_below(OWN[crate])}
+        found[crate] = None
+    return [*found]
+
+
+def chains(crates):
     """How long the longest chain of crates takes, from each crate upwards, in lines of code and of loading."""
     lines = {}
     for crate in reversed(crates):
-        own = sum(it.read_text().count("\n") for it in (TOP / "crates" / crate / "src").rglob("*.rt"))
-        lines[crate] = LINES_OF_LOADING + own + max((lines[it] for it in crates if crate in named[it]), default=0)
+        own = sum(it.read_text().count("\n") for it in (CRATES / crate / "src").rglob("*.rt"))
+        lines[crate] = LINES_OF_LOADING + own + max((lines[it] for it in lines if crate in OWN[it]), default=0)
     return lines
 
 
-def make_tree(named, crate):
-    """A tree with the sources of the crate and of all below it, and with what these have built."""
-    tree, crates = TREES / crate, with_below(named, crate)
-    for folder in [f"crates/{it}/{part}" for it in crates for part in PARTS]:
-        if (TOP / folder).is_dir():
-            shutil.copytree(TOP / folder, tree / folder)
-    for folder in [f"crates/{it}/out/rlib" for it in crates[:-1]]:
-        shutil.copytree(TOP / folder, tree / folder, copy_function=os.link)
-    rows = re.findall(rf"^(?:{'|'.join(crates)}):.*\n", (TOP / "crates.txt").read_text(), re.M)
-    (tree / "crates.txt").write_text("".join(rows))
-    return tree
+def program_of(crate):
+    """Where the program of a crate is built, if it has one."""
+    return CRATES / crate / "out" / crate if (CRATES / crate / "src" / "main.rt").is_file() else None
 
 
-def move_out(crate, source, goal):
-    """Takes what was built of the crate, and kept of its proofs, from one tree to the other."""
-    old, new = (it / "crates" / crate / "out" for it in (source, goal))
-    if old.is_dir():
-        shutil.rmtree(new, ignore_errors=True)
-        old.rename(new)
+def folder_of(crate):
+    """Where the library of a crate is built, and the checksum of what it was built from."""
+    return CRATES / crate / "out" / "rlib" / "statements"
 
 
-def clear_trees():
-    """Takes the trees away. What was kept in one goes back to the repository, if an earlier run was killed."""
-    for tree in TREES.glob("*"):
-        move_out(tree.name, tree, TOP)
-    shutil.rmtree(TREES, ignore_errors=True)
+class Build:
+    """The crates to build, over one kit."""
+
+    def __init__(self, names, kit):
+        self.kit, self.crates = kit, with_below(names)
+        self.chain = chains(self.crates)
+        self.sums = {}
+        for crate in self.crates:
+            self.sums[crate] = self.sum_of(crate)
+
+    def sum_of(self, crate):
+        """A checksum of all that a crate's proof reads."""
+        total = hashlib.sha256((self.kit / "KIT-ID").read_bytes())
+        total.update(repr([OF_KIT[crate], [self.sums[it] for it in OWN[crate]]]).encode())
+        for file in sorted(it for part in PARTS for it in (CRATES / crate / part).rglob("*") if it.is_file()):
+            total.update(repr((str(file.relative_to(CRATES)), file.read_bytes())).encode())
+        return total.hexdigest()
+
+    def kept_sum(self, crate):
+        """What is kept of a crate that is built: the checksum of what it was built from, and its own of a program, which others build too."""
+        program = program_of(crate)
+        return self.sums[crate] + (hashlib.sha256(program.read_bytes()).hexdigest() if program else "")
+
+    def is_built(self, crate):
+        kept = folder_of(crate) / "sum"
+        made = program_of(crate) or folder_of(crate) / f"{crate}.rlib"
+        return made.exists() and kept.is_file() and kept.read_text() == self.kept_sum(crate)
+
+    def words(self, crate, jobs, made):
+        """The command that proves a crate, and writes what is made of it."""
+        root = "src/lib.rt" if program_of(crate) is None else "src/main.rt"
+        words = [self.kit / "bin/rattle", "build", "--crate-name", crate, root, "--jobs", jobs, "-o", made]
+        words += ["--antt-project", self.kit / "rattle/logic/antt-project.json", "--logic-built", self.kit / "logic_built"]
+        words += ["--statements"] if program_of(crate) is None else ["--toolchain", self.kit / "toolchain"]
+        words += ["-L", f"dependency={self.kit}/rlibs"]
+        for it in OF_KIT[crate]:
+            words += ["--extern", f"{it}={self.kit}/rlibs/{it}.rlib"]
+        for it in with_below(OWN[crate]):
+            words += ["-L", f"dependency={folder_of(it)}"]
+        for it in OWN[crate]:
+            words += ["--extern", f"{it}={folder_of(it) / it}.rlib"]
+        return [str(it) for it in words]
+
+    def commands(self, crate, jobs, folder):
+        """What is called for a crate, one after the other: a program is linked, too."""
+        program = program_of(crate)
+        if program is None:
+            return [self.words(crate, jobs, folder_of(crate) / f"{crate}.rlib")]
+        made = f"{folder}/{crate}.o"
+        link = [f"{self.kit}/bin/rattle-link", "--target", TARGET, "--toolchain", f"{self.kit}/toolchain", "-o", str(program), made]
+        return [self.words(crate, jobs, made), [*link, f"{self.kit}/c/libos_c.a", f"{self.kit}/c/liblibc_c.a"]]
+
+    def prove(self, crate, jobs, niceness):
+        """Proves and builds one crate: whether it is proved, and what was said."""
+        kept = folder_of(crate) / "sum"
+        kept.parent.mkdir(parents=True, exist_ok=True)
+        kept.unlink(missing_ok=True)
+        said, began = "", time.monotonic()
+        with tempfile.TemporaryDirectory(prefix="wqrun-build-") as folder:
+            for words in self.commands(crate, jobs, folder):
+                pipes = {"stdout": subprocess.PIPE, "stderr": subprocess.STDOUT, "text": True, "errors": "replace"}
+                with subprocess.Popen(["nice", "-n", str(niceness), *words], cwd=CRATES / crate, **pipes) as ran:
+                    RUNNING.add(ran)
+                    said += ran.communicate()[0]
+                    RUNNING.discard(ran)
+                if ran.returncode:
+                    break
+        # what was changed meanwhile is proved again by the next run
+        if ran.returncode == 0 and self.sum_of(crate) == self.sums[crate]:
+            kept.write_text(self.kept_sum(crate))
+        return ran.returncode == 0, f"== {crate}, {time.monotonic() - began:.0f} seconds, {jobs} jobs\n{said}"
+
+    def prove_all(self, log):
+        """Proves the crates side by side, with a line for each; whether all are proved."""
+        running = {}
+        built = {it for it in self.crates if self.is_built(it)}
+        left, most = [it for it in self.crates if it not in built], jobs_at_once()
+        with ThreadPoolExecutor(most) as pool:
+            while left or running:
+                for crate in sorted((it for it in left if built.issuperset(OWN[it])), key=self.chain.get, reverse=True):
+                    at_work = [jobs for _, jobs in running.values()]
+                    if sum(at_work) >= most:
+                        break
+                    jobs = 1 if program_of(crate) or max(at_work, default=1) > 1 else min(most, 2 if OWN[crate] else 3)
+                    running[pool.submit(self.prove, crate, jobs, 0 if jobs > 1 else NICENESS)] = crate, jobs
+                    left.remove(crate)
+                for it in wait(running, return_when=FIRST_COMPLETED).done:
+                    (is_proved, said), (crate, _) = it.result(), running.pop(it)
+                    print(said, file=log, flush=True)
+                    if not is_proved:
+                        print(f"{said}{crate} is not proved; what runs beside it comes to its end", flush=True)
+                        return False
+                    built.add(crate)
+                    print(f"{time.strftime('%H:%M:%S')} {len(built)} of {len(self.crates)}: {crate}", flush=True)
+        return True
 
 
-def crates_at_once():
-    """How many crates are proved side by side: one for each processor, as far as there is memory."""
+def jobs_at_once():
+    """How many jobs run side by side: one for each processor, as far as there is memory."""
     free = int(re.search(r"MemAvailable:\s+(\d+)", Path("/proc/meminfo").read_text())[1]) << 10
-    return max(1, min(PROCESSORS, free // MEMORY_OF_A_CRATE))
-
-
-def prove(named, crate, jobs, niceness):
-    """Proves and builds one crate in a tree of its own: whether it is proved, and what was said."""
-    tree = make_tree(named, crate)
-    move_out(crate, TOP, tree)
-    words = ["run" if crate == PROGRAM else "lib", "--jobs", str(jobs)]
-    words = ["nice", "-n", str(niceness), "rt", *words, *["--", "--version"] * (crate == PROGRAM)]
-    began = time.monotonic()
-    pipes = {"stdout": subprocess.PIPE, "stderr": subprocess.PIPE, "text": True, "errors": "replace"}
-    try:
-        with subprocess.Popen(words, cwd=tree / "crates" / crate, **pipes) as ran:
-            RUNNING.add(ran)
-            said, faults = ran.communicate()
-            RUNNING.discard(ran)
-    finally:
-        move_out(crate, tree, TOP)
-        shutil.rmtree(tree)
-    return ran.returncode == 0, f"== {crate}, {time.monotonic() - began:.0f} seconds\n{said}{faults}"
+    return max(1, min(PROCESSORS, free // MEMORY_OF_A_JOB))
 
 
 def stop(number, _frame):
-    """Ends the provers with the script: what they keep stays, and a later run goes on from it."""
+    """Ends the provers with the script: what is built stays, and a later run goes on from it."""
     for it in list(RUNNING):
         it.terminate()
     os._exit(128 + number)
 
 
-def prove_all(named, crates, log):
-    """Proves the crates side by side, with a line for each; whether all are proved."""
-    chain, left, built, running = chains(named, crates), set(crates), set(), {}
-    most = crates_at_once()
-    with ThreadPoolExecutor(most) as pool:
-        while left or running:
-            ready = sorted((it for it in left if built.issuperset(named[it])), key=chain.get, reverse=True)
-            others = len(running) + len(ready) - 1
-            for crate in ready[: most - len(running)]:
-                before = sum(chain[it] > chain[crate] for it in running.values())
-                jobs = 1 if before or crate == PROGRAM else min(most, max(2 if named[crate] else 3, most - others))
-                running[pool.submit(prove, named, crate, jobs, min(NICE_STEP * before, NICEST))] = crate
-                left.remove(crate)
-            for it in wait(running, return_when=FIRST_COMPLETED).done:
-                (is_proved, said), crate = it.result(), running.pop(it)
-                print(said, file=log, flush=True)
-                if not is_proved:
-                    print(f"{said}{crate} is not proved; what runs beside it comes to its end", flush=True)
-                    return False
-                built.add(crate)
-                print(f"{time.strftime('%H:%M:%S')} {len(built)} of {len(crates)}: {crate}", flush=True)
-    return True
-
-
-def lone_run():
-    """Waits for another run in this repository, which would take the trees away, and keeps others out while the file is open."""
-    lock = open(TOP / "crates.txt")
-    fcntl.flock(lock, fcntl.LOCK_EX)
-    return lock
+def lone_run(crates):
+    """Waits for another run in this repository, and for `rt` in these crates, and keeps both out while what is given back is open."""
+    held = [os.open(it, os.O_RDONLY) for it in (TOP / "crates.txt", *sorted(CRATES / it for it in crates))]
+    for it in held:
+        fcntl.flock(it, fcntl.LOCK_EX)
+    return held
 
 
 def main():
-    if len(sys.argv) > 1:
+    names = sys.argv[1:] or [USUAL]
+    if not OWN.keys() >= set(names):
         sys.exit(__doc__)
-    if not shutil.which("rt"):
+    rt = shutil.which("rt")
+    if rt is None:
         sys.exit('build.py: there is no rt on the PATH. It comes with Rattle\'s toolchain: README.md, "Run it"')
     signal.signal(signal.SIGTERM, stop)
-    _lock = lone_run()
-    named = named_crates()
-    crates = with_below(named, PROGRAM)
-    clear_trees()
+    _held = lone_run(with_below(names))
+    build = Build(names, Path(rt).resolve().parent.parent)
     with tempfile.NamedTemporaryFile("w", prefix="wqrun-build-", delete=False) as log:
-        print(BEFORE.format(count=len(crates), processors=PROCESSORS, log=log.name), flush=True)
-        is_proved = prove_all(named, crates, log)
-    clear_trees()
-    if is_proved:
-        print(f"built crates/{PROGRAM}/out/{PROGRAM}")
+        print(BEFORE.format(names=" and ".join(names), count=len(build.crates), processors=PROCESSORS, log=log.name), flush=True)
+        if names == [USUAL]:
+            print(LASTS, flush=True)
+        is_proved = build.prove_all(log)
+    for it in filter(program_of, names):
+        if is_proved:
+            print(f"built {program_of(it).relative_to(TOP)}")
     return 0 if is_proved else 1
 
 

@@ -1,22 +1,37 @@
 #!/usr/bin/env bash
 # Builds the library of C from crates/wq_c, FOLDER/libyeangvos.a and FOLDER/libyeangvos.so, with what of the kit it calls: three
 # functions over malloc, realloc and free. The shared one is a link to the file of its name and major number, by which a program that is
-# linked with it asks for it. What is proved already is not proved again. PROVED=1 says that `rt ci` has proved and built in
-# this tree all that wq_c stands on: `rt lib` takes nothing from `rt ci` and would prove it once more, so wq_c is built over it as it is.
+# linked with it asks for it. What wq_c stands on is built by build.py, which proves nothing twice. PROVED=1 says that `rt ci` has proved
+# and built it in this tree, and wq_c is built over that.
 set -euo pipefail
 folder=$(realpath "${1:?usage: checks/c_library.sh FOLDER}")
 cd "$(dirname "${BASH_SOURCE[0]}")/.."
 kit=$(dirname "$(dirname "$(realpath "$(command -v rt)")")")
 backend=${BACKEND:-llvm}
 
+# Whether each library that `rt ci` built is there: behind it comes back to its place what an earlier run of another command had built.
+has_all() {
+    local it crate
+    for it in crates/*/out/rlib; do
+        crate=$(basename "${it%/out/rlib}")
+        [ -e "$it/$crate.rlib" ] || return 1
+    done
+}
+if [ "${PROVED:-0}" = 1 ] && has_all; then
+    libraries=out/rlib
+else
+    libraries=out/rlib/statements
+    checks/build.py wq_seats wq_rows
+fi
+
 # wq_c proved and built over the libraries of its crates as they stand.
-over_proved() {
+built() {
     local crates=.. below=(--extern "std=$kit/rlibs/std.rlib" -L "dependency=$kit/rlibs") it
-    for it in "$crates"/*/out/rlib; do
+    for it in "$crates"/*/"$libraries"; do
         below+=(-L "dependency=$it")
     done
     for it in wq_seats wq_rows; do
-        below+=(--extern "$it=$crates/$it/out/rlib/$it.rlib")
+        below+=(--extern "$it=$crates/$it/$libraries/$it.rlib")
     done
     mkdir -p out
     "$kit/bin/rattle" build --crate-name wq_c src/lib.rt "${below[@]}" --links wq_c= --crate-type staticlib \
@@ -24,12 +39,8 @@ over_proved() {
         --toolchain "$kit/toolchain" --backend "$backend" --jobs 1 --incremental out/incremental -o out/libwq_c.a
 }
 
-built() {
-    if [ "${PROVED:-0}" = 1 ]; then over_proved; else rt lib --backend "$backend"; fi
-}
-
-# Another run in this repository would build crates/wq_c/out/libwq_c.a anew, for another backend, before it is copied, and checks/build.py,
-# which takes this lock too, sets aside what is built over. What is started here has the lock as well, and keeps it where this is killed.
+# Another run in this repository would build crates/wq_c/out/libwq_c.a anew, for another backend, before it is copied, and build.py,
+# which takes this lock too, what is built over. What is started here has the lock as well, and keeps it where this is killed.
 exec 9<crates.txt
 flock 9
 made=$(mktemp -d)

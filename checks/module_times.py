@@ -3,7 +3,7 @@
 
 A check keeps each module that it has proved as a file below crates/CRATE/out/incremental, so the time between two files is
 what the later one took. It is exact after `rm -r out/incremental; rt check --jobs 1`; several jobs run side by side. With no
-CRATE it goes over all crates that have such files, as they do after `make run`.
+CRATE it goes over all crates that have such files.
 """
 import sys
 from collections import Counter
