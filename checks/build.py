@@ -41,7 +41,7 @@ NICENESS = 5
 RUNNING = set()
 BEFORE = """Proves {names} and what it stands on, {count} crates, side by side on {processors} processors, and builds it. All that is said
 goes into {log}."""
-LASTS = """From nothing that took 16 minutes by the clock on four processors, 51 minutes of them, in a slow hour of a shared host. A
+LASTS = """From nothing that took 14 minutes by the clock on four processors, 45 minutes of them, in a slow hour of a shared host. A
 busier or slower machine takes up to three times as long, and where nothing has changed it takes some seconds."""
 
 
