@@ -4,9 +4,9 @@ where none is named.
 
 Each crate is proved by one `rattle build`. The library that it writes has what the crates above may cite and not how it was proved
 (--statements), so that these load little. A crate can start when those below it are built, and does so the sooner, the longer its chain
-of crates above it is. One at a time gets two jobs, or three where it stands on no other crate, and each other one a processor that is
-left. A further job loads anew all that the crate stands on, which for the program takes longer than its proof. A crate that was built
-from the same files, over the same libraries and by the same kit, is not proved again.
+of crates above it is. One at a time gets two jobs, or three where it stands on no other crate, as far as so many are left, and each
+other one a processor that is left. A further job loads anew all that the crate stands on, which for the program takes longer than
+its proof. A crate that was built from the same files, over the same libraries and by the same kit, is not proved again.
 
 The libraries that the commands of `rt` build are others, and hold the proofs. These stand below them, in crates/CRATE/out/rlib/statements:
 no other folder may have files of a library, by `rt ci`. Where `rt` builds its own anew, this one goes, and is built again by the next run.
@@ -164,9 +164,10 @@ class Build:
             while left or running:
                 for crate in sorted((it for it in left if built.issuperset(OWN[it])), key=self.chain.get, reverse=True):
                     at_work = [jobs for _, jobs in running.values()]
-                    if sum(at_work) >= most:
+                    free = most - sum(at_work)
+                    if free <= 0:
                         break
-                    jobs = 1 if program_of(crate) or max(at_work, default=1) > 1 else min(most, 2 if OWN[crate] else 3)
+                    jobs = 1 if program_of(crate) or max(at_work, default=1) > 1 else min(free, 2 if OWN[crate] else 3)
                     running[pool.submit(self.prove, crate, jobs, 0 if jobs > 1 else NICENESS)] = crate, jobs
                     left.remove(crate)
                 for it in wait(running, return_when=FIRST_COMPLETED).done:
