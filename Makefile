@@ -1,6 +1,6 @@
 # `make run` proves, builds and runs the tool on an example; `make try` runs that example unproved; `make test` is the gate.
 SHELL := /bin/bash
-# `build` sets aside what stands in the crates' out/ while it works, and `library` builds into it.
+# What a target names is made in that order, also with -j: `install` refuses a bad PREFIX before anything is proved.
 .NOTPARALLEL:
 PREFIX ?= /usr/local
 PROGRAM := crates/wqrun/out/wqrun
