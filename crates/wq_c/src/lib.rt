@@ -1,6 +1,7 @@
-//! The calls of a queue for a caller in C. Each but the two that tell how large a seat is takes the memory of a seat, which is the
-//! call's until it returns, and leaves a seat there. It answers a word: a code in the low 32 bits and, above them, a number where the
-//! answer has one. `pure` has the calls that want no seat. `checks/walks.py` writes this file.
+//! The calls of a queue for a caller in C. Two tell the size and the alignment of a seat. `wq_c_init` takes room for a seat, leaves
+//! one there, and answers nothing. Each other call takes the memory of a seat, `wq_c_hand_out` that of two, leaves a seat in each,
+//! and answers a word: a code in the low 32 bits and, above them, a number where the answer has one; that of a count is the count.
+//! What a call takes is its own until it returns. `pure` has the call that wants no seat. `checks/walks.py` writes this file.
 //!
 //! # Safety
 //! A call in C owes what the export's `requires*` says: that a seat, or room for one, lies at the address, and that nobody else
