@@ -192,9 +192,12 @@ else
     left_out rustc
 fi
 checks/c_install.sh "$work" "$work/installed"
-# what is installed below a DESTDIR is the same, and names it nowhere
+# what is installed below a DESTDIR is the same, also where another folder names it, and names it nowhere
 checks/c_install.sh "$work" /opt/wq "$work/staged"
 diff <(cd "$work/installed" && find . | sort) <(cd "$work/staged/opt/wq" && find . | sort)
+top=$PWD
+(cd "$work" && "$top/checks/c_install.sh" . /opt/wq from/here)
+diff -r "$work/staged" "$work/from/here"
 if grep -rl "$work/staged" "$work/staged" || [[ $(readlink "$work/staged/opt/wq/lib/libyeangvos.so") = */* ]]; then
     echo "install: the DESTDIR is named"
     exit 1

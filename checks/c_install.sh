@@ -1,9 +1,10 @@
 #!/usr/bin/env bash
-# Installs the library of C that stands in FOLDER under PREFIX: c_install.sh FOLDER PREFIX [DESTDIR].
+# Installs the library of C that stands in FOLDER under PREFIX: c_install.sh FOLDER PREFIX [DESTDIR]. A FOLDER or DESTDIR that does
+# not begin at the root is taken from where the caller stands.
 set -euo pipefail
 folder=$(realpath "${1:?usage: checks/c_install.sh FOLDER PREFIX [DESTDIR]}")
 prefix=${2:?usage: checks/c_install.sh FOLDER PREFIX [DESTDIR]}
-to=${3:-}$prefix
+to=${3:+$(realpath -m "$3")}$prefix
 [[ $prefix = /* ]] || { echo "c_install.sh: PREFIX is $prefix, and no path from the root" >&2; exit 1; }
 cd "$(dirname "${BASH_SOURCE[0]}")/.."
 major=$(sed -n 's/^#define WQ_MAJOR \([0-9]*\).*/\1/p' include/wq.h)
