@@ -1,4 +1,4 @@
-/* What the C tests share: a check that ends the program with its line, and events by number. */
+/* What the C tests share: a check that ends the program with its line. */
 #ifndef CHECK_H
 #define CHECK_H
 #include <stdio.h>

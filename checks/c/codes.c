@@ -1,4 +1,5 @@
-/* Each code of each call, in one thread. */
+/* Each code of each call that comes to one thread that has memory. WQ_MEMORY comes in memory.c, WQ_CONTENDED in contended.c,
+ * WQ_NO_SEAT and WQ_SEAT_BUSY in misuse.c, and WQ_SEAT_SIZE in refusals.c. */
 #include "check.h"
 #include "wq.h"
 #include <string.h>
@@ -16,7 +17,7 @@ static void before_a_queue(void) {
     CHECK(wq_init(&owner) == WQ_OK && wq_init(&one) == WQ_OK && wq_init(&two) == WQ_OK);
     CHECK(wq_queue(&one, 0) == WQ_NOT_SENDER && wq_is_pending(&one, 0) == WQ_NOT_SENDER && wq_request_stop(&one) == WQ_NOT_SENDER);
     CHECK(wq_flush_begin(&one, 0) == WQ_NOT_SENDER && wq_flush_done(&one, 0) == WQ_NOT_SENDER && wq_number(&one, &n) == WQ_NOT_SENDER);
-    CHECK(wq_set_spins(&one, 128) == WQ_NOT_SENDER);
+    CHECK(wq_set_spins(&one, 128) == WQ_NOT_SENDER && wq_queue_tries(&one, 0, 1) == WQ_NOT_SENDER);
     CHECK(wq_take(&one, &n) == WQ_NOT_OWNER && wq_close(&one, &n) == WQ_NOT_OWNER && wq_drain(&one, &n) == WQ_NOT_OWNER);
     CHECK(wq_resume(&one) == WQ_NOT_OWNER && wq_next(&one, &n) == WQ_NOT_OWNER && wq_waiting(&one, &n) == WQ_NOT_OWNER);
     CHECK(wq_begin(&one, &n) == WQ_NOT_OWNER && wq_end(&one) == WQ_NOT_OWNER && wq_rest(&one) == WQ_NOT_OWNER);
@@ -45,6 +46,7 @@ static void sending(void) {
     CHECK(wq_queue_tries(&one, 0, 0) == WQ_NO_TRIES && wq_is_pending(&one, 0) == WQ_NO && wq_is_pending(&one, 4) == WQ_NO_ITEM);
     CHECK(wq_queue(&one, 2) == (WQ_QUEUED | WQ_FIRST | WQ_WAKES) && wq_queue(&one, 2) == WQ_PENDING);
     CHECK(wq_is_pending(&one, 2) == WQ_YES && wq_queue(&one, 0) == WQ_QUEUED);
+    CHECK(wq_queue(&one, 0) == WQ_PENDING && wq_queue_tries(&one, 0, 1) == WQ_PENDING);
     CHECK(wq_flush_begin(&one, 1) == WQ_NO_BARRIER && wq_flush_done(&one, 1) == WQ_NO_BARRIER);
     /* wq.h gives these two the most tries, so only the exports can be given none */
     CHECK(wq_c_flush_begin(one.room, 0, 0) == WQ_NO_TRIES && wq_c_flush_begin(one.room, 1, 0) == WQ_NO_BARRIER);
@@ -60,13 +62,37 @@ static void executing(void) {
     CHECK(wq_take(&owner, &n) == WQ_SOME_WAIT && wq_rest(&owner) == WQ_SOME_WAIT);
     CHECK(wq_waiting(&owner, &n) == WQ_OK && n == 2 && wq_next(&owner, &n) == WQ_OK && n == 2);
     CHECK(wq_begin(&owner, &n) == WQ_OK && n == 2 && wq_begin(&owner, &n) == WQ_IS_RUNNING && wq_is_pending(&one, 2) == WQ_NO);
+    CHECK(wq_waiting(&owner, &n) == WQ_OK && n == 1 && wq_next(&owner, &n) == WQ_OK && n == 0);
     CHECK(wq_end(&owner) == WQ_OK && wq_end(&owner) == WQ_NONE_RUNS);
     CHECK(wq_begin(&owner, &n) == WQ_OK && n == 0 && wq_rest(&owner) == WQ_IS_RUNNING && wq_end(&owner) == WQ_OK);
+    n = 77;
+    CHECK(wq_next(&owner, &n) == WQ_NONE_WAITS && n == 77 && wq_waiting(&owner, &n) == WQ_OK && n == 0);
     CHECK(wq_rest(&owner) == WQ_YES && wq_rest(&owner) == WQ_NO);
     CHECK(wq_flush_begin(&one, 0) == (WQ_QUEUED | WQ_FIRST | WQ_WAKES) && wq_flush_done(&one, 0) == WQ_NO);
     CHECK(wq_flush_begin(&one, 0) == WQ_PENDING && wq_flush_done(&one, 0) == WQ_NO);
     CHECK(wq_rest(&owner) == WQ_NO && wq_take(&owner, &n) == WQ_OK && n == 1);
     CHECK(wq_begin(&owner, &n) == WQ_OK && n == 4 && wq_end(&owner) == WQ_OK && wq_flush_done(&one, 0) == WQ_YES);
+}
+
+static void executes(uint32_t number) {
+    uint32_t n;
+    CHECK(wq_begin(&owner, &n) == WQ_OK && n == number && wq_end(&owner) == WQ_OK);
+}
+
+/* Each answer of a barrier and of the stop item that an item has. */
+static void accepting(void) {
+    uint32_t n;
+    CHECK(wq_flush_begin(&one, 0) == (WQ_QUEUED | WQ_FIRST) && wq_request_stop(&one) == WQ_QUEUED);
+    CHECK(wq_flush_begin(&one, 0) == WQ_PENDING && wq_request_stop(&one) == WQ_PENDING && wq_queue_tries(&one, 3, 1) == WQ_QUEUED);
+    CHECK(wq_take(&owner, &n) == WQ_OK && n == 3);
+    executes(4);
+    executes(5);
+    executes(3);
+    CHECK(wq_rest(&owner) == WQ_YES);
+    CHECK(wq_request_stop(&one) == (WQ_QUEUED | WQ_FIRST | WQ_WAKES) && wq_flush_begin(&one, 0) == WQ_QUEUED);
+    CHECK(wq_take(&owner, &n) == WQ_OK && n == 2);
+    executes(5);
+    executes(4);
 }
 
 static void draining(void) {
@@ -75,6 +101,7 @@ static void draining(void) {
     CHECK(wq_queue(&one, 1) == (WQ_QUEUED | WQ_FIRST) && wq_drain(&owner, &n) == WQ_OK && n == 1);
     CHECK(wq_drain(&owner, &n) == WQ_IS_DRAINING && wq_take(&owner, &n) == WQ_IS_DRAINING && wq_rest(&owner) == WQ_IS_DRAINING);
     CHECK(wq_queue(&one, 2) == WQ_DRAINING && wq_is_pending(&one, 2) == WQ_NO && wq_resume(&owner) == WQ_SOME_WAIT);
+    CHECK(wq_queue_tries(&one, 2, 1) == WQ_DRAINING && wq_queue_tries(&one, 2, WQ_MOST_TRIES) == WQ_DRAINING);
     CHECK(wq_flush_begin(&one, 0) == WQ_DRAINING && wq_flush_done(&one, 0) == WQ_YES && wq_request_stop(&one) == WQ_DRAINING);
     CHECK(wq_chain(&owner, 3) == WQ_NONE_RUNS && wq_begin(&owner, &n) == WQ_OK && n == 1 && wq_resume(&owner) == WQ_IS_RUNNING);
     CHECK(wq_chain(&owner, 3) == WQ_QUEUED && wq_chain(&owner, 3) == WQ_PENDING && wq_end(&owner) == WQ_OK);
@@ -84,16 +111,17 @@ static void draining(void) {
     CHECK(wq_begin(&owner, &n) == WQ_OK && n == 2 && wq_end(&owner) == WQ_OK);
 }
 
-/* What the seats of the queue have counted by then, each alone and all together. */
+/* What the seats of the queue have counted by then, each alone and all together. No two counts of a seat are the same, so that each
+ * is seen to stand in its own place. */
 static void counting(void) {
     wq_counts sent = {0}, ran = {0}, sums = {0};
     CHECK(wq_add_counts(&one, &sent) == WQ_OK && wq_add_counts(&owner, &ran) == WQ_OK);
-    CHECK(sent.queued == 6 && sent.pending == 3 && sent.closed == 3 && sent.draining == 3 && sent.contended == 0);
+    CHECK(sent.queued == 11 && sent.pending == 7 && sent.closed == 4 && sent.draining == 5 && sent.contended == 0);
     CHECK(sent.chained == 0 && sent.chain_pending == 0 && sent.executed == 0 && !wq_balances(&sent));
-    CHECK(ran.chained == 2 && ran.chain_pending == 1 && ran.executed == 8 && ran.queued == 0 && ran.pending == 0 && !wq_balances(&ran));
+    CHECK(ran.chained == 2 && ran.chain_pending == 1 && ran.executed == 13 && ran.queued == 0 && ran.pending == 0 && !wq_balances(&ran));
     CHECK(wq_add_counts(&two, &sums) == WQ_OK && sums.queued == 0 && sums.executed == 0 && wq_balances(&sums));
     CHECK(wq_add_counts(&one, &sums) == WQ_OK && wq_add_counts(&owner, &sums) == WQ_OK && wq_balances(&sums));
-    CHECK(sums.queued == 6 && sums.chained == 2 && sums.executed == 8 && sums.pending == 3 && sums.closed == 3 && sums.draining == 3);
+    CHECK(sums.queued == 11 && sums.chained == 2 && sums.executed == 13 && sums.pending == 7 && sums.closed == 4 && sums.draining == 5);
     CHECK(wq_c_count(one.room, 8) == 0 && wq_c_count(one.room, UINT32_MAX) == 0 && wq_c_count(owner.room, 8) == 0);
 }
 
@@ -103,6 +131,7 @@ static void closing(void) {
     CHECK(wq_close(&owner, &n) == WQ_OK && n == 1 && wq_close(&owner, &n) == WQ_IS_CLOSED && wq_drain(&owner, &n) == WQ_IS_CLOSED);
     CHECK(wq_take(&owner, &n) == WQ_IS_CLOSED && wq_rest(&owner) == WQ_IS_CLOSED && wq_resume(&owner) == WQ_NOT_DRAINING);
     CHECK(wq_queue(&one, 1) == WQ_CLOSED && wq_is_pending(&one, 1) == WQ_NO && wq_flush_begin(&one, 0) == WQ_CLOSED);
+    CHECK(wq_queue_tries(&one, 1, 1) == WQ_CLOSED);
     CHECK(wq_begin(&owner, &n) == WQ_OK && n == 5 && wq_request_stop(&one) == WQ_CLOSED && wq_chain(&owner, 3) == WQ_QUEUED);
     CHECK(wq_end(&owner) == WQ_OK && wq_is_done(&owner) == WQ_NO && wq_release(&owner) == WQ_NOT_DONE);
     CHECK(wq_begin(&owner, &n) == WQ_OK && n == 3 && wq_end(&owner) == WQ_OK && wq_is_done(&owner) == WQ_YES);
@@ -129,11 +158,60 @@ static void spins(void) {
     }
 }
 
+static int is_named(uint32_t code, const char *name) { return !strcmp(wq_code_name(code), name); }
+#define NAMED(code) CHECK(is_named(WQ_##code, #code))
+
+static void names_of_answers(void) {
+    NAMED(OK);
+    NAMED(QUEUED);
+    CHECK(is_named(WQ_QUEUED | WQ_FIRST, "QUEUED|FIRST") && is_named(WQ_QUEUED | WQ_WAKES, "QUEUED|WAKES"));
+    CHECK(is_named(WQ_QUEUED | WQ_FIRST | WQ_WAKES, "QUEUED|FIRST|WAKES"));
+    NAMED(PENDING);
+    NAMED(CLOSED);
+    NAMED(DRAINING);
+    NAMED(CONTENDED);
+    NAMED(NO);
+    NAMED(YES);
+}
+
+static void names_of_errors(void) {
+    NAMED(NOT_SENDER);
+    NAMED(NOT_OWNER);
+    NAMED(NO_ITEM);
+    NAMED(NO_BARRIER);
+    NAMED(NO_TRIES);
+    NAMED(IS_CLOSED);
+    NAMED(IS_DRAINING);
+    NAMED(NOT_DRAINING);
+    NAMED(IS_OPEN);
+    NAMED(SOME_WAIT);
+    NAMED(NONE_WAITS);
+    NAMED(IS_RUNNING);
+    NAMED(NONE_RUNS);
+    NAMED(IN_USE);
+    NAMED(NO_SENDER);
+    NAMED(NOT_DONE);
+    NAMED(MEMORY);
+    NAMED(ITEMS);
+    NAMED(BARRIERS);
+    NAMED(SENDERS);
+}
+
+static void names_of_what_is_found(void) {
+    NAMED(SEAT_BUSY);
+    NAMED(NO_SEAT);
+    NAMED(SEAT_SIZE);
+    NAMED(NO_THREAD);
+}
+
+/* Each code has a name of its own, so that all others have none. */
 static void names(void) {
-    CHECK(!strcmp(wq_code_name(WQ_OK), "OK") && !strcmp(wq_code_name(WQ_QUEUED | WQ_FIRST | WQ_WAKES), "QUEUED|FIRST|WAKES"));
-    CHECK(!strcmp(wq_code_name(WQ_YES), "YES") && !strcmp(wq_code_name(14), "?") && !strcmp(wq_code_name(WQ_NOT_SENDER), "NOT_SENDER"));
-    CHECK(!strcmp(wq_code_name(WQ_IS_OPEN), "IS_OPEN") && !strcmp(wq_code_name(WQ_SENDERS), "SENDERS") && !strcmp(wq_code_name(84), "?"));
-    CHECK(!strcmp(wq_code_name(WQ_SEAT_BUSY), "SEAT_BUSY") && !strcmp(wq_code_name(WQ_NO_THREAD), "NO_THREAD"));
+    uint32_t named = 0;
+    names_of_answers();
+    names_of_errors();
+    names_of_what_is_found();
+    for (uint32_t code = 0; code < 256; code++) named += !is_named(code, "?");
+    CHECK(named == 11 + 20 + 4 && is_named(WQ_FIRST, "?") && is_named(WQ_WAKES, "?") && is_named(UINT32_MAX, "?"));
 }
 
 /* A seat of each kind writes nothing behind as many bytes as the library says that a seat takes. */
@@ -156,6 +234,7 @@ int main(void) {
     handing_out();
     sending();
     executing();
+    accepting();
     draining();
     closing();
     bits();
