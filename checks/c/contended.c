@@ -1,8 +1,9 @@
 /* contended [pauses]: a sender queues items with one try each, and the signal of a timer comes between: in it another sender queues an
  * item, and the owner executes all that waits. Where it comes between a push's look at the head and its exchange, the try is lost; the
- * item is not pending then, and the next try queues it. So it is of a barrier and of the stop item. With the word also that a sender
- * passes as many pauses between two tries as it was told; the kit's other compiler leaves pauses out, which do nothing. One thread does
- * all of it, so it needs no second processor. */
+ * item is not pending then, and the next try queues it. So it is of a barrier and of the stop item. A call of wq.h that makes the most
+ * tries goes on after a lost one: it is never answered WQ_CONTENDED. With the word also that a sender passes as many pauses between two
+ * tries as it was told; the kit's other compiler leaves pauses out, which do nothing. One thread does all of it, so it needs no second
+ * processor. */
 #include "check.h"
 #include "wq.h"
 #include <signal.h>
@@ -62,29 +63,42 @@ static int is_lost(uint32_t item) {
 
 static int has_time(uint32_t turn) { return turn % OWN != 0 || time(NULL) < late; }
 
-/* One try each, for which wq.h has no call: of a barrier and of the stop item it makes the most tries. */
+/* One try each. Of a barrier and of the stop item wq.h has no call for that. */
+static uint32_t queue_once(void) { return wq_queue_tries(&sender, 0, 1); }
 static uint32_t flush_once(void) { return (uint32_t)wq_c_flush_begin(sender.room, 0, 1); }
 static uint32_t stop_once(void) { return (uint32_t)wq_c_request_stop(sender.room, 1); }
 
+/* The calls of wq.h that make the most tries. */
+static uint32_t queue_own(void) { return wq_queue(&sender, 0); }
+static uint32_t flush(void) { return wq_flush_begin(&sender, 0); }
+static uint32_t stop(void) { return wq_request_stop(&sender); }
+
+static void own_all(void) {
+    uint32_t n;
+    __atomic_store_n(&is_owning, 1, __ATOMIC_SEQ_CST);
+    CHECK(wq_take(&owner, &n) == WQ_OK);
+    execute_all();
+    __atomic_store_n(&is_owning, 0, __ATOMIC_SEQ_CST);
+}
+
 /* There is one of this number, so the owner executes it before it is queued again. It is queued behind an item: on an empty list the
  * head is after the signal what it was before, and the exchange is won. It is never pending: what was queued has begun, and what was
- * lost was given back. */
-static void lose_tries(uint32_t (*once)(void)) {
-    uint32_t wanted = WANTED_EACH, n;
+ * lost was given back. In each turn it is queued with one try and with the most, so that about as many of either are lost. */
+static void lose_tries(uint32_t (*once)(void), uint32_t (*until)(void)) {
+    uint32_t wanted = WANTED_EACH;
+    own_all(); /* the item that is to be queued may wait */
     for (uint32_t turn = 0; wanted > 0 && has_time(turn); turn++) {
-        while (is_lost(turn % OWN)) { }
+        while (is_lost(1 + turn % (OWN - 1))) { }
         uint32_t code = once();
         CHECK(code == WQ_CONTENDED || wq_is_queued(code));
-        if (code == WQ_CONTENDED) {
-            lost++;
-            wanted--;
-        } else {
-            queued++;
-        }
-        __atomic_store_n(&is_owning, 1, __ATOMIC_SEQ_CST);
-        CHECK(wq_take(&owner, &n) == WQ_OK);
-        execute_all();
-        __atomic_store_n(&is_owning, 0, __ATOMIC_SEQ_CST);
+        lost += code == WQ_CONTENDED;
+        wanted -= code == WQ_CONTENDED;
+        queued += wq_is_queued(code) != 0;
+        own_all();
+        while (is_lost(1 + turn % (OWN - 1))) { }
+        CHECK(wq_is_queued(until()));
+        queued++;
+        own_all();
     }
     CHECK(wanted == 0);
 }
@@ -118,8 +132,9 @@ int main(int argc, char **argv) {
     for (uint32_t turn = 0; lost < WANTED && has_time(turn); turn++)
         while (is_lost(turn % OWN)) { }
     CHECK(lost >= WANTED);
-    lose_tries(flush_once);
-    lose_tries(stop_once);
+    lose_tries(queue_once, queue_own);
+    lose_tries(flush_once, flush);
+    lose_tries(stop_once, stop);
     if (argc > 1) give_way();
     CHECK(signal(SIGALRM, SIG_IGN) != SIG_ERR);
     CHECK(wq_close(&owner, &n) == WQ_OK);
