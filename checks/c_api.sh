@@ -167,6 +167,7 @@ fi
 timeout 60 "$work/logger" >"$work/lines"
 if command -v python3 >/dev/null; then
     timeout 60 python3 checks/c/client.py
+    timeout 60 python3 checks/c/codes.py
     timeout 60 python3 checks/c/misuse.py
     timeout 60 python3 examples/c/logger.py >"$work/python_lines"
 else

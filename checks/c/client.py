@@ -1,4 +1,4 @@
-"""wq.py: four threads queue, each one's items run in its order; and each error is raised by its name."""
+"""wq.py: four threads queue, and each one's items run in its order; codes.py has each error by its name."""
 import threading
 from wq import Code, Counts, Error, Fault, Kind, Seat, WqError, check_history
 
