@@ -18,7 +18,8 @@ strict=(-std=c99 -pedantic -O2 -g -Wall -Wextra -Werror -pthread -Iinclude -Iche
 
 library=$work/libyeangvos.a
 
-# built NAME FLAG..: the program of checks/c/NAME.c, strictly: of C99, and of nothing that a program has to ask for (_GNU_SOURCE)
+# built NAME FLAG..: the program of checks/c/NAME.c, strictly: of C99, and of nothing that a program has to ask for (_GNU_SOURCE),
+# unless it does so itself
 built() {
     "${CC:-cc}" "${strict[@]}" "${@:2}" -o "$work/$1" "checks/c/$1.c" "$library"
 }
@@ -59,6 +60,10 @@ built worker -DWQ_UNCHECKED
 timeout 60 "$work/worker" >"$work/said"
 built worker_answers
 timeout 60 "$work/worker_answers"
+built signals
+timeout 60 "$work/signals"
+built signals -DWQ_UNCHECKED
+timeout 60 "$work/signals" >"$work/said"
 built refusals -Wl,--wrap=wq_c_seat_size,--wrap=wq_c_seat_align,--wrap=pthread_create
 timeout 60 "$work/refusals"
 # the headers alone, as each compiler that is there takes them, without a warning
