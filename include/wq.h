@@ -246,8 +246,9 @@ static inline uint32_t wq_flush_done(wq_seat *sender, uint32_t barrier) {
 /* Queues the stop item, with the most tries: the queue's last number, items + barriers, at which an owner's loop may end. The codes of
  * wq_queue, but not WQ_NO_ITEM. */
 static inline uint32_t wq_request_stop(wq_seat *sender) { WQ_CALL(sender, WQ_NO_NUMBER, wq_c_request_stop(sender->room, WQ_MOST_TRIES)); }
-/* How long the sender gives way after a lost exchange: twice as many pauses as the count, then four times, then eight times as many.
- * The count is 128 where nobody sets it. It is time alone, of which no proof says anything. WQ_OK. */
+/* How long the sender gives way after a lost exchange: twice as many pauses as the count, then four times, then eight times as many,
+ * but never more than 2^32 - 1, which take half a minute or more: a large count makes each lost try long. The count is 128 where
+ * nobody sets it. It is time alone, of which no proof says anything. WQ_OK. */
 static inline uint32_t wq_set_spins(wq_seat *sender, uint32_t count) { WQ_CALL(sender, WQ_NO_NUMBER, wq_c_set_spins(sender->room, count)); }
 /* The sender's number, from 0. WQ_OK. The pointer may be NULL. */
 static inline uint32_t wq_number(wq_seat *sender, uint32_t *number) { WQ_CALL(sender, number, wq_c_number(sender->room)); }

@@ -242,7 +242,7 @@ class Seat:
 
     def set_spins(self, count):
         """A sender's: how long it gives way after a lost exchange, twice as many pauses as the count, then four times, then eight
-        times as many."""
+        times as many, but never more than 2 ** 32 - 1, which take half a minute or more."""
         self._call("set_spins", count=count)
 
     def number(self):
