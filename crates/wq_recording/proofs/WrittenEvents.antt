@@ -22,7 +22,7 @@ use Rattle.wq_text.specs.Fault.{◌>>=◌, need, found, of_one, of_two}
 use Rattle.wq_text.specs.Header.{is_header, header_line_gives}
 use Rattle.wq_text.specs.Line.{asking_line}
 use Rattle.wq_text.specs.Turn.{number_of_queue, barrier_or_item, after_b, seat_and_number, nth_word, why_at, cause_at}
-use Rattle.wq_text.specs.Word.{spelled_number, other_words}
+use Rattle.wq_text.specs.Word.{spelled_number, without_first}
 use Rattle.wq_recording.specs.declared.entry.Entry.{Entry}
 use Rattle.wq_recording.specs.declared.history_words.Telling.{Telling}
 use Rattle.wq_recording.specs.declared.history_words.Telling.TheVariants as telling
@@ -123,19 +123,19 @@ module _ (l : Layout) where
   asked one = (stage.Commands l, Some one)
 
   line_tells : (w : List ℕ) (ws : List (List ℕ)) (t : Telling) (e : Event) → IsShortWord w → AreShortWords ws → length ws ≤ 3
-      → is_header w ≡ false → telling_at w ws ≡ Some t → entry_gives l t w (other_words ws) ≡ Ok (alone e) → Tells (spaced w ws) e
+      → is_header w ≡ false → telling_at w ws ≡ Some t → entry_gives l t w (without_first ws) ≡ Ok (alone e) → Tells (spaced w ws) e
   line_tells w ws t e short all few first name gives = (
     spaced_no_lf w ws short all,
     spaced_line w ws short all history_grammar (stage.Commands l) few refl
         ∙ ap
         (λ b. if b then of_one (λ (next : Stage). (next, None)) (header_line_gives history_grammar.names_seats history_grammar.most (stage.Commands l) w ws)
         else asking_line history_grammar (stage.Commands l) w ws) first
-        ∙ ap (λ (o : Option Telling). found kind.Word o >>= λ n. of_one asked (entry_gives l n w (other_words ws))) name
+        ∙ ap (λ (o : Option Telling). found kind.Word o >>= λ n. of_one asked (entry_gives l n w (without_first ws))) name
         ∙ ap (of_one asked) gives,
   )
 
   owner_tells : (ws : List (List ℕ)) (t : Telling) (e : Event) → AreShortWords ws → length ws ≤ 3
-      → telling_at (codes "o") ws ≡ Some t → entry_gives l t (codes "o") (other_words ws) ≡ Ok (alone e) → Tells (spaced (codes "o") ws) e
+      → telling_at (codes "o") ws ≡ Some t → entry_gives l t (codes "o") (without_first ws) ≡ Ok (alone e) → Tells (spaced (codes "o") ws) e
   owner_tells ws t e all few name gives = line_tells (codes "o") ws t e (literal (codes "o") refl) all few refl name gives
 
   module _ (s k : ℕ) (seat : s < l.senders) (lt : k < number_count l) where
@@ -154,7 +154,7 @@ module _ (l : Layout) where
     sender_tells : (ws : List (List ℕ)) (t : Telling) (e : Event) → AreShortWords ws → length ws ≤ 3
         → telling_at (decimal s) ws
         ≡ (if bytes_eq (decimal s) (codes "o") then owners_telling (nth_word 0 ws) else senders_telling (nth_word 0 ws) (nth_word (length ws - 1) ws))
-        → senders_telling (nth_word 0 ws) (nth_word (length ws - 1) ws) ≡ Some t → entry_gives l t (decimal s) (other_words ws) ≡ Ok (alone e)
+        → senders_telling (nth_word 0 ws) (nth_word (length ws - 1) ws) ≡ Some t → entry_gives l t (decimal s) (without_first ws) ≡ Ok (alone e)
         → Tells (spaced (decimal s) ws) e
     sender_tells ws t e all few by_first told gives =
         line_tells (decimal s) ws t e (decimal_word s small) all few not_header

@@ -13,7 +13,7 @@ use Rattle.wq_text.specs.Arguments.{item, no_word, one}
 use Rattle.wq_text.specs.Fault.{of_none, of_one, of_two}
 use Rattle.wq_text.specs.Line.{Grammar}
 use Rattle.wq_text.specs.Turn.{number_of_queue, seat_and_number, why_at, nth_word, without_last}
-use Rattle.wq_text.specs.Word.{other_words}
+use Rattle.wq_text.specs.Word.{without_first}
 use Rattle.wq_recording.specs.declared.entry.Entry.{Entry}
 use Rattle.wq_recording.specs.declared.history_words.Telling.{Telling}
 use Rattle.wq_recording.specs.declared.history_words.Telling.TheVariants as telling
@@ -112,5 +112,5 @@ history_grammar = record {
   names_seats = true;
   most = record { items = most_items; senders = 64 };
   names = telling_at;
-  asks = λ l t w ws. entry_gives l t w (other_words ws);
+  asks = λ l t w ws. entry_gives l t w (without_first ws);
 }

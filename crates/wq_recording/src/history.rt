@@ -3,7 +3,7 @@ ghost use Rattle.wq_recording.specs.History.{IsOf, history_grammar};
 
 use crate::entry::Entry;
 use crate::history_words::{Telling, entry, telling_of};
-use wq_text::{Language, LineError, Most, other_words};
+use wq_text::{Language, LineError, Most, without_first};
 use wq_words::{Layout, MOST_ITEMS};
 
 // The lines of a history, each an entry at most.
@@ -43,6 +43,6 @@ impl Language for Entries {
         first: &str,
         others: &[&str],
     ) -> Result<Entry, LineError> {
-        entry(layout, name, first, other_words(others))
+        entry(layout, name, first, without_first(others))
     }
 }

@@ -21,7 +21,7 @@ use Rattle.wq_text.specs.Arguments.{sender, item, barrier, no_word, one_word, tw
 use Rattle.wq_text.specs.Fault.{◌>>=◌, of_none, of_one, of_two}
 use Rattle.wq_text.specs.Line.{Grammar, Lines}
 use Rattle.wq_text.specs.Version.{lines_of_version}
-use Rattle.wq_text.specs.Word.{other_words}
+use Rattle.wq_text.specs.Word.{without_first}
 
 -- whose step it is, and which
 abbrev pub Turn : Type 0
@@ -160,7 +160,7 @@ schedule_grammar = record {
   names_seats = true;
   most = record { items = most_text_items; senders = 64 };
   names = action_at;
-  asks = λ l a w ws. turn_gives l a w (other_words ws);
+  asks = λ l a w ws. turn_gives l a w (without_first ws);
 }
 
 -- that of version 2
@@ -170,7 +170,7 @@ schedule_grammar_2 = record {
   names_seats = true;
   most = record { items = most_items; senders = 64 };
   names = action_at_2;
-  asks = λ l a w ws. turn_gives l a w (other_words ws);
+  asks = λ l a w ws. turn_gives l a w (without_first ws);
 }
 
 -- the lines of a schedule

@@ -15,9 +15,10 @@ words line = slice_split (λ b. b == 32) line
 abbrev pub is_word : List ℕ → Bool
 is_word w = nat_lt 0 (length w)
 
-abbrev pub other_words : List (List ℕ) → List (List ℕ)
-other_words [] = []
-other_words (w ∷ ws) = ws
+-- all words but the first, of which there may be none
+abbrev pub without_first : List (List ℕ) → List (List ℕ)
+without_first [] = []
+without_first (w ∷ ws) = ws
 
 abbrev pub is_plain : ℕ → Bool
 is_plain b = nat_le 32 b && nat_le b 126

@@ -57,6 +57,9 @@ pub(crate) fn sender(layout: Layout, word: &str) -> Result<u32, LineError>
 }
 
 /// An item of the queue.
+///
+/// # Errors
+/// `Fault` with `Number` where the word is no number, or `Item` where the queue has no such item. Never `Memory`.
 pub fn item(layout: Layout, word: &str) -> Result<u32, LineError>
     ensures exact { LineGives result (item layout word.now) }
     ensures within { IfOk result (λ n. n < layout.items) }
@@ -90,6 +93,9 @@ pub(crate) fn one_item(layout: Layout, words: &[&str]) -> Result<u32, LineError>
 }
 
 /// No word stands there.
+///
+/// # Errors
+/// `Fault` with `Count` where a word does. Never `Memory`.
 pub fn no_word(words: &[&str]) -> Result<(), LineError>
     ensures exact { LineGives result (no_word (map (λ w. w.now) words.now)) }
     ensures memory { result ≢ Err Memory }
@@ -101,6 +107,9 @@ pub fn no_word(words: &[&str]) -> Result<(), LineError>
 }
 
 /// The one word that stands there.
+///
+/// # Errors
+/// `Fault` with `Count` where none or several do. Never `Memory`.
 pub fn one_word<'a>(words: &[&'a str]) -> Result<&'a str, LineError>
     ensures exact { LineGivesAs (λ w. w.now) result (one_word (map (λ w. w.now) words.now)) }
     ensures memory { result ≢ Err Memory }

@@ -26,5 +26,5 @@ pub use schedule_text::parse_steps;
 pub use script::Script;
 pub use script_text::parse;
 pub use text::{MOST_BYTES, layout_at_end};
-pub use turn::{number_of_queue, other_words, seat_and_number, why_of, without_last};
+pub use turn::{number_of_queue, seat_and_number, why_of, without_first, without_last};
 pub use word::reads_decimals;

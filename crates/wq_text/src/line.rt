@@ -152,6 +152,10 @@ fn plain_line<L: Language>(
 }
 
 /// Which line is awaited behind this one, and what this one asks for.
+///
+/// # Errors
+/// `Fault` with the first thing that is wrong with the line, in the order of `Kind`, or `Memory` where memory for its words was
+/// refused.
 #[tactic(auto, using(crate::proofs::Sound::keeps_none, crate::proofs::Sound::keeps_version))]
 pub fn read_line<L: Language>(
     alloc: Global,

@@ -12,7 +12,7 @@ use crate::header::Most;
 use crate::line::Language;
 use crate::schedule::Schedule;
 use crate::text::{is_of, read};
-use crate::turn::{Action, action_of, action_of_2, other_words, turn};
+use crate::turn::{Action, action_of, action_of_2, turn, without_first};
 use std::alloc::Global;
 use wq_core::{Seat, Step};
 use wq_words::{Layout, MOST_ITEMS, MOST_TEXT_ITEMS};
@@ -54,7 +54,7 @@ impl Language for Turns {
         first: &str,
         others: &[&str],
     ) -> Result<(Seat, Step), LineError> {
-        turn(layout, name, first, other_words(others))
+        turn(layout, name, first, without_first(others))
     }
 }
 
@@ -95,7 +95,7 @@ impl Language for Turns2 {
         first: &str,
         others: &[&str],
     ) -> Result<(Seat, Step), LineError> {
-        turn(layout, name, first, other_words(others))
+        turn(layout, name, first, without_first(others))
     }
 }
 

@@ -80,6 +80,10 @@ fn add<A: Drop>(asked: &mut Vec<A>, one: Option<A>) -> Result<(), AllocError>
 }
 
 /// The layout, at the end of a text before line `number`.
+///
+/// # Errors
+/// `Refused` with that line: `Version` where no line has come yet, `Header` where the items or the senders are not named yet.
+/// Never `Memory`.
 pub fn layout_at_end(number: u64, stage: Stage) -> Result<Layout, ParseError>
     ensures whole { IfOk result (λ layout. layout_at stage ≡ Some layout) }
     ensures refused { IfRefused result (λ e. (e.line ≡ number) × (end_fault stage ≡ Some e.kind)) }

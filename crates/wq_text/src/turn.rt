@@ -3,7 +3,7 @@ ghost use Rattle.std.specs.Prelude.{◌≡◌, ◌≢◌, ◌<◌, ◌-◌, ◌=
 ghost use Rattle.wq_words.specs.Numbers.{number_count};
 ghost use Rattle.wq_text.specs.declared.fault.LineError.TheVariants.{Memory};
 ghost use Rattle.wq_text.specs.Fault.{LineGives, of_two};
-ghost use Rattle.wq_text.specs.Word.{other_words};
+ghost use Rattle.wq_text.specs.Word.{without_first};
 ghost use Rattle.wq_text.specs.Turn.{after_b, number_of_queue, link_of, owners_action, senders_action, cause_at, why_at, nth_word, owners_action_2, senders_action_2, action_at, action_at_2, seat_alone, seat_and_number, number_and_link, without_last, senders_step, owners_step, turn_gives};
 ghost use Rattle.wq_text.specs.Turns.{PlacedIn};
 
@@ -52,6 +52,10 @@ fn digits_of_barrier(word: &str) -> Option<&str>
 }
 
 /// A number of the queue: an item, `b` and a barrier, or `stop`.
+///
+/// # Errors
+/// `Fault` with `Number` where what should be a number is none, or `Item` or `Barrier` where the queue has no such item or barrier.
+/// Never `Memory`.
 #[tactic(auto, unfolding(crate::specs::Turn::number_of_queue))]
 pub fn number_of_queue(layout: Layout, word: &str) -> Result<u32, LineError>
     ensures exact { LineGives result (number_of_queue layout word.now) }
@@ -155,6 +159,10 @@ fn seat_alone(layout: Layout, first: &str, words: &[&str]) -> Result<u32, LineEr
 }
 
 /// A sender, and a number of the queue in the one word behind.
+///
+/// # Errors
+/// `Fault` with `Count` where not just one word stands behind; then with `Number` or `Sender` where the first names no sender of
+/// the queue; then with that of `number_of_queue`. Never `Memory`.
 pub fn seat_and_number(layout: Layout, first: &str, words: &[&str]) -> Result<(u32, u32), LineError>
     ensures exact { LineGives result (seat_and_number layout first.now (map (λ w. w.now) words.now)) }
     ensures within { IfOk result (λ n. (n.0 < layout.senders) × (n.1 < number_count layout)) }
@@ -252,7 +260,7 @@ pub(crate) fn turn(
     }
 }
 
-/// The words without the last of them.
+/// The words without the last of them; no words where there are none.
 pub fn without_last<'a, 'b>(words: &'b [&'a str]) -> &'b [&'a str]
     ensures { map (λ w. w.now) result.now ≡ without_last (map (λ w. w.now) words.now) }
 {
@@ -297,9 +305,9 @@ pub(crate) fn action_of_2(first: &str, others: &[&str]) -> Option<Action>
     }
 }
 
-/// The words behind the second of a line.
-pub fn other_words<'a, 'b>(words: &'b [&'a str]) -> &'b [&'a str]
-    ensures { map (λ w. w.now) result.now ≡ other_words (map (λ w. w.now) words.now) }
+/// The words without the first of them; no words where there are none.
+pub fn without_first<'a, 'b>(words: &'b [&'a str]) -> &'b [&'a str]
+    ensures { map (λ w. w.now) result.now ≡ without_first (map (λ w. w.now) words.now) }
 {
     match words {
         [_, others @ ..] => others,
