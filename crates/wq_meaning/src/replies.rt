@@ -83,8 +83,8 @@ fn write_again(
     }
 }
 
-/// Writes the line of a step that was made.
-pub fn write_made(
+// Writes the line of a step that was made.
+pub(crate) fn write_made(
     layout: &Layout,
     step: Step,
     reply: Reply,
