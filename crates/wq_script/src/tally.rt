@@ -26,15 +26,16 @@ impl Tally {
         }
     }
 
-    // Counts an arming, which is no queueing where the item goes on the table.
+    // Counts an arming: as the queueing that it was, or not at all where the item went on the table or nothing was changed.
     pub(crate) fn arming(&mut self, armed: Armed)
         requires { HasTallyRoom self.old }
         ensures { self.new ≡ counted_armed armed self.old }
     {
         match armed {
-            Armed::Queued { .. } => self.queued += 1,
-            Armed::Pending => self.busy += 1,
-            Armed::Closed | Armed::Draining => self.refused += 1,
+            Armed::Queued { first, wakes } => self.queueing(Answer::Queued { first, wakes }),
+            Armed::Pending => self.queueing(Answer::Pending),
+            Armed::Closed => self.queueing(Answer::Closed),
+            Armed::Draining => self.queueing(Answer::Draining),
             Armed::OnTable | Armed::Contended | Armed::TooFar | Armed::Memory => {}
         }
     }
