@@ -10,7 +10,7 @@ use std::fmt;
 use std::io::ErrorKind;
 use std::sync::Wait;
 use std::thread::Threads;
-use wq_commands::{HistoryCommand, ScriptCommand, StepsCommand, check_main};
+use wq_commands::{HistoryCommand, check_main, script_main, steps_main};
 use wq_core::Seat;
 use wq_core::Step::{self, Begin, End, Hold, Link, Look, Push, Take, Walk};
 use wq_delay::{Armed, Delay, Modified, NoRoom};
@@ -342,8 +342,8 @@ fn run_main<T: Threads + Wait + Sync>(
     let mut said = Page::new();
     let reader = text.as_bytes();
     let status = match main {
-        Main::Script => subcommand_main(&ScriptCommand, alloc, reader, &mut written, &mut said),
-        Main::Steps => subcommand_main(&StepsCommand, alloc, reader, &mut written, &mut said),
+        Main::Script => script_main(alloc, reader, &mut written, &mut said),
+        Main::Steps => steps_main(alloc, reader, &mut written, &mut said),
         Main::History => subcommand_main(&HistoryCommand, alloc, reader, &mut written, &mut said),
         Main::Live => live_main(rt, alloc, reader, &mut written, &mut said),
         Main::Check => check_main(alloc, reader, false, &mut written, &mut said),

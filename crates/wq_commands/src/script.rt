@@ -1,11 +1,15 @@
 //! `wqrun script`: a script's bytes in, its report's bytes out.
-ghost use Rattle.std.specs.Prelude.{◌≡◌, IfOk, IfErr};
-ghost use Rattle.wq_subcommand.specs.Ending.{LacksOutput};
+ghost use Rattle.std.specs.Prelude.{◌≡◌, ◌≢◌, ◌⊎◌, IfOk, IfErr, IfSome, take};
+ghost use Rattle.wq_text.specs.declared.fault.ScriptError.{ScriptError};
+ghost use Rattle.wq_subcommand.specs.declared.failure.Failure.{Failure as Cause};
+ghost use Rattle.wq_subcommand.specs.Failure.{status_of};
+ghost use Rattle.wq_subcommand.specs.Ending.{Writes, Fails, IsUntouched, LacksOutput};
 ghost use Rattle.wq_commands.specs.Report.{Reports, HasNoReport};
 
 use std::alloc::Global;
+use std::io::{Read, Write};
 use wq_script::{parse, run};
-use wq_subcommand::{Failure, Subcommand};
+use wq_subcommand::{Failure, Subcommand, subcommand_main};
 use wq_text::MOST_BYTES;
 
 // One byte more than a script or a schedule may have.
@@ -30,4 +34,23 @@ impl Subcommand for ScriptCommand {
         let report = run(alloc, &script)?;
         Ok(report)
     }
+}
+
+/// Runs the script that the reader gives, and writes its report. The answer is the exit status: 0 where the report was written, 1
+/// where the text was refused or a stream failed, 3 for want of memory. Failures are said on `faults`, a line each; where that
+/// cannot be written the status stays. Nothing is written before the whole report stands.
+pub fn script_main<R: Read + Drop, W: Write, F: Write>(
+    alloc: Global,
+    reader: R,
+    writer: &mut W,
+    faults: &mut F,
+) -> u8
+    ensures written { result ≡ 0 → IfSome (R.remaining reader)
+        (λ bytes. Writes Reports (take 1048577 bytes) (W.contents writer.old) (W.contents writer.new)) }
+    ensures failed { result ≢ 0 → (cause : Cause ScriptError) × (result ≡ status_of cause) × IsUntouched cause writer.old writer.new
+        × IfSome (R.remaining reader)
+        (λ bytes. Fails Reports HasNoReport (take 1048577 bytes) (W.contents writer.old) (W.contents writer.new) cause) }
+    ensures status { (result ≡ 0) ⊎ ((result ≡ 1) ⊎ (result ≡ 3)) }
+{
+    subcommand_main(&ScriptCommand, alloc, reader, writer, faults)
 }

@@ -11,7 +11,7 @@ use std::process::ExitCode;
 use std::sync::Wait;
 use std::thread::Threads;
 use wq_command_line::{Answer, Kind, Source, Task, task_of};
-use wq_commands::{HistoryCommand, ScriptCommand, StepsCommand, check_main};
+use wq_commands::{HistoryCommand, check_main, script_main, steps_main};
 use wq_pool_plan::live_main;
 use wq_subcommand::{Failure, WRONG_WORDS, end, subcommand_main};
 
@@ -36,8 +36,8 @@ fn run_text<T: Threads + Wait + Sync, R: Read + Drop, O: Write, E: Write>(
     faults: &mut E,
 ) -> u8 {
     match task.kind {
-        Kind::Script => subcommand_main(&ScriptCommand, alloc, reader, output, faults),
-        Kind::Steps => subcommand_main(&StepsCommand, alloc, reader, output, faults),
+        Kind::Script => script_main(alloc, reader, output, faults),
+        Kind::Steps => steps_main(alloc, reader, output, faults),
         Kind::History => subcommand_main(&HistoryCommand, alloc, reader, output, faults),
         Kind::Live => live_main(threads, alloc, reader, output, faults),
         Kind::Check => match BufReader::new(alloc, reader) {

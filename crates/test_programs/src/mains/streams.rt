@@ -9,7 +9,7 @@ use std::io::BufReader;
 use std::process::Abort;
 use std::sync::Wait;
 use std::thread::Threads;
-use wq_commands::{HistoryCommand, ScriptCommand, StepsCommand, check_main};
+use wq_commands::{HistoryCommand, check_main, script_main, steps_main};
 use wq_pool_plan::live_main;
 use wq_subcommand::{Failure, end, subcommand_main};
 
@@ -95,8 +95,8 @@ fn run<T: Threads + Wait + Sync>(
     faults: &mut PieceWriter,
 ) -> u8 {
     match main {
-        Main::Script => subcommand_main(&ScriptCommand, alloc, reader, writer, faults),
-        Main::Steps => subcommand_main(&StepsCommand, alloc, reader, writer, faults),
+        Main::Script => script_main(alloc, reader, writer, faults),
+        Main::Steps => steps_main(alloc, reader, writer, faults),
         Main::History => subcommand_main(&HistoryCommand, alloc, reader, writer, faults),
         Main::Live => live_main(rt, alloc, reader, writer, faults),
         Main::Check => match BufReader::new(alloc, reader) {
