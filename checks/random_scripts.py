@@ -3,8 +3,8 @@
 
 Both languages in both versions; each second text is spoiled in one place. The models are written from the tables of that page: a
 queue and its delay table as plain lists, whose commands are taken whole, and the words of the machine of single steps. What is
-compared is all that is written and the status, so a refusal's line and its kind too. Each kind of refusal but Size comes, and each
-line of output that a command or a step may have. A text that fails is made again from its number.
+compared is all that is written and the status, so a refusal's line and its kind too. Each kind of refusal but Size comes, and of each
+command and each step each line of output that it may have. A text that fails is made again from its number.
 """
 import random
 import re
@@ -488,13 +488,14 @@ def read(text, kinds):
 
 
 def outcome(text, kinds):
-    """The status, and what is written on standard output and standard error."""
+    """The status, and what is written on standard output and standard error; and the lines of each command or step, with its word."""
     try:
         language, said = read(text, kinds)
     except Refused as refused:
-        return 1, "", f"{refused}\n"
-    lines = [line for it in said for line in language.does(it)]
-    return 0, "".join(f"{line}\n" for line in [*lines, *language.ends()]), ""
+        return (1, "", f"{refused}\n"), []
+    told = [(it[0], line) for it in said for line in language.does(it)]
+    lines = [*(line for _, line in told), *language.ends()]
+    return (0, "".join(f"{line}\n" for line in lines), ""), told
 
 
 # Random texts.
@@ -636,26 +637,55 @@ def random_text(number):
 
 KINDS = "Version Cut Bytes Space Word Header Count Number Items Senders Barriers Sender Item Barrier".split()
 QUEUEINGS = ["true", "true first", "false pending", "false closed", "false draining"]
+# what each command of a script and each step of a schedule may be answered, without the numbers
 ANSWERS = {
-    "script": [*QUEUEINGS, "false", "closed", "already closed", "ran", "not closed", "empty", "too long left", "pending", "idle", "on table"]
-    + ["false too far", "cancelled", "not on table", "was idle", "moved", "draining", "too far", "pushed", "refused", "false backwards"],
-    "steps": ["held", "busy", "empty", "item", "closed", "draining", "linked", "pushed first", "pushed", "lost", "took empty", "took item"]
-    + ["back closed", "back contended", "back cancelled", "back draining", "pending", "idle", "closed empty", "closed item", "closed draining"]
-    + ["end", "next", "began", "ended", "chained", "turned", "rested", "drained empty", "drained item", "resumed", "not enabled"],
+    "script": {
+        **dict.fromkeys(["queue", "flush", "stop"], QUEUEINGS),
+        "run": ["ran"],
+        "close": ["closed", "already closed"],
+        "drain": ["ran", "empty", "too long left", "not closed"],
+        "report": ["accepted", "chained", "executed", "busy", "refused", "delayed", "waiting"],
+        "done": ["true", "false"],
+        "check": ["pending", "idle"],
+        "arm": [*QUEUEINGS, "on table", "false too far"],
+        "modify": ["was idle", "moved", "pending", "closed", "draining", "too far"],
+        "cancel": ["cancelled", "not on table"],
+        "advance": ["pushed", "refused", "false backwards"],
+    },
+    "steps": {
+        "hold": ["held", "busy"],
+        "look": ["empty", "item", "closed", "draining"],
+        "link": ["linked", "not enabled"],
+        "push": ["pushed first", "pushed", "lost", "not enabled"],
+        "back": ["back closed", "back contended", "back cancelled", "back draining", "not enabled"],
+        "check": ["pending", "idle"],
+        "take": ["took empty", "took item", "not enabled"],
+        "close": ["closed empty", "closed item", "closed draining", "not enabled"],
+        "drain": ["drained empty", "drained item", "not enabled"],
+        "resume": ["resumed", "not enabled"],
+        "walk": ["next", "end", "not enabled"],
+        "begin": ["began", "not enabled"],
+        "end": ["ended", "not enabled"],
+        "chain": ["chained", "busy", "not enabled"],
+        "turn": ["turned", "not enabled"],
+        "rest": ["rested", "lost", "not enabled"],
+    },
 }
 
 
-def wanting(seen):
-    """The refusals and the lines of output that came of no text."""
+def wanting(lines, refusals):
+    """The lines of each command and step, and the refusals, that came of no text; and lines that ANSWERS has not."""
     kinds = {"script": [*KINDS, "Limit"], "steps": KINDS}
-    wanted = [(command, it) for command in ANSWERS for it in [*ANSWERS[command], *kinds[command]]]
-    return [f"no {command} of {it}" for command, it in wanted if (command, it) not in seen]
+    wanted = {(language, word, line) for language, words in ANSWERS.items() for word, told in words.items() for line in told}
+    refused = {(language, kind) for language, of_it in kinds.items() for kind in of_it}
+    missed = [f"no line {line} of {word} in {language}" for language, word, line in sorted(wanted - lines)]
+    unknown = [f"a line {line} of {word} in {language}" for language, word, line in sorted(lines - wanted)]
+    return missed + unknown + [f"no {language} of {kind}" for language, kind in sorted(refused - refusals)]
 
 
-def answers(command, lines):
-    """The lines without the seven of each report of a script, whose `refused N` reads as that of an advance."""
-    told = {it for at, line in enumerate(lines) if line.startswith("accepted ") for it in range(at, at + 7)}
-    return [line for at, line in enumerate(lines) if command != "script" or at not in told]
+def without_numbers(line):
+    """A line without the numbers of items, and the counts, that it ends with."""
+    return re.sub(r"( (b?\d+|stop|nothing))+$", "", line)
 
 
 def fault_of(program, file, command, text, want):
@@ -667,16 +697,16 @@ def fault_of(program, file, command, text, want):
 
 
 def main(program):
-    program, seen, faults = Path(program).resolve(), set(), []
+    program, lines, refusals, faults = Path(program).resolve(), set(), set(), []
     with tempfile.TemporaryDirectory() as folder:
         for number in range(TEXTS):
             command, text = random_text(number)
-            want = outcome(text, SCRIPTS if command == "script" else SCHEDULES)
-            said = [re.sub(r"( (b?\d+|stop|nothing))+$", "", line) for line in answers(command, want[1].splitlines())]
-            seen.update((command, it) for it in [*said, want[2].strip().rpartition(" ")[2]])
+            want, told = outcome(text, SCRIPTS if command == "script" else SCHEDULES)
+            lines.update((command, word, without_numbers(line)) for word, line in told)
+            refusals.update([(command, want[2].strip().rpartition(" ")[2])] if want[0] else [])
             fault = fault_of(program, Path(folder) / "text", command, text, want)
             faults += [f"text {number}: {fault}"] if fault else []
-    faults += wanting(seen)
+    faults += wanting(lines, refusals)
     print("\n".join([*faults, f"random scripts: {TEXTS} texts run, {len(faults)} not as wanted"]))
     return 1 if faults else 0
 
