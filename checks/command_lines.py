@@ -5,6 +5,8 @@ Each runs in a folder with a script, a schedule and a plan, and with a script on
 words, the status, and what standard output and standard error hold: the very bytes, or `Some` texts that stand in it in any order.
 """
 import os
+import resource
+import signal
 import socket
 import subprocess
 import sys
@@ -15,7 +17,8 @@ SCRIPT = b"wq 1\nitems 4\nsenders 2\nqueue 0 1\n"
 SCHEDULE = b"steps 1\nitems 4\nsenders 2\n0 look\n"
 PLAN = b'{"queues":1,"workers":1,"senders":2,"own":2}'
 TRACE = b"trace 1\nitems 2\nqueue 0\n"
-INPUT = b"wq 1\nitems 4\nsenders 2\nclose\n"
+HEADER, CLOSE = b"wq 1\nitems 4\nsenders 2\n", b"close\n"
+INPUT = HEADER + CLOSE
 # what was read of a file before the program is given it
 BEFORE = b"read\n"
 FILES = {"a.wq": SCRIPT, "a.steps": SCHEDULE, "a.json": PLAN, "steps": SCRIPT, "--help": SCHEDULE, "-": PLAN}
@@ -78,6 +81,7 @@ ROWS = [
     (["script", b"\xff"], 1, b"", b"file: Unreadable\n"),
     ([b"a\xc3"], 1, b"", b"file: Unreadable\n"),
     ([b"\xed\xa0\x80", "a"], 1, b"", b"file: Unreadable\n"),
+    (["--version", b"\xff"], 1, b"", b"file: Unreadable\n"),
     # help and the version
     ("--help", 0, HELP, b""),
     ("help", 0, HELP, b""),
@@ -112,8 +116,12 @@ ROWS = [
     ("help script --help", 2, b"", Some([b"error: unrecognized subcommand '--help'"])),
 ]
 
-# Standard input that is no pipe: a file of which something was read before, a socket, a folder, and none at all. `/dev/stdin` is
-# opened anew, so a file is read from its beginning, and a socket cannot be opened.
+# how many bytes a script may have; one more is read, and no further
+MOST_BYTES = 1048576
+SIZES = [(MOST_BYTES, (0, CLOSED, b"")), (MOST_BYTES + 1, (1, b"", b"line 1: Size\n"))]
+
+# Standard input that is no pipe: a file of which something was read before, a socket, a folder, and none at all; and a pipe that
+# has nothing yet and does not wait. `/dev/stdin` is opened anew, so a file is read from its beginning, and a socket cannot be opened.
 UNREADABLE = (1, b"", b"file: Unreadable\n")
 INPUTS = [
     ("file", "", (0, CLOSED, b"")),
@@ -122,6 +130,7 @@ INPUTS = [
     ("socket", "script /dev/stdin", UNREADABLE),
     ("folder", "", UNREADABLE),
     ("nothing", "", UNREADABLE),
+    ("pipe that does not wait", "", UNREADABLE),
 ]
 
 # on a device that takes nothing: standard output alone, and standard error too
@@ -130,6 +139,14 @@ FULL = [("race", 2), ("script none", 1), ("script a.wq", 1)]
 # to a pipe that nobody reads: an output that cannot be written, whatever the parent does with SIGPIPE; of standard error the status alone
 UNREAD_OUTPUT = [(words, 1, b"output: Unwritable\n") for words in ("script a.wq", "--help", "check bad.trace")]
 UNREAD_FAULTS = [("script none", 1), ("race", 2)]
+# to a file that may have this many bytes
+MOST_WRITTEN = 4
+
+
+def script_of(size):
+    """A script of so many bytes: behind its header comments, and last its one command."""
+    comments = (b"#" * 63 + b"\n") * (size // 64)
+    return HEADER + comments[-(size - len(INPUT)) :] + CLOSE
 
 
 def stands(want, text):
@@ -152,6 +169,8 @@ class Runner:
         """What becomes of the words with standard input of a kind."""
         if kind == "nothing":
             return self.run(words, stdin=subprocess.DEVNULL, preexec_fn=lambda: os.close(0))
+        if kind == "pipe that does not wait":
+            return self.run_on_empty_pipe(words)
         if kind == "socket":
             given, taken = socket.socketpair()
             with given, taken:
@@ -165,6 +184,15 @@ class Runner:
             return self.run(words, stdin=file)
         finally:
             os.close(file)
+
+    def run_on_empty_pipe(self, words):
+        reader, writer = os.pipe()
+        os.set_blocking(reader, False)
+        try:
+            return self.run(words, stdin=reader)
+        finally:
+            os.close(reader)
+            os.close(writer)
 
     def hold(self, words, got, want):
         self.count += 1
@@ -180,6 +208,30 @@ def unread_pipe():
     return writer
 
 
+def full_pipe():
+    """Both ends of a pipe that has no room and does not wait."""
+    reader, writer = os.pipe()
+    os.set_blocking(writer, False)
+    try:
+        while True:
+            os.write(writer, b"full" * 1024)
+    except BlockingIOError:
+        return reader, writer
+
+
+def hold_outputs_that_end(runner):
+    """What becomes of an output that has no room and does not wait, and of one that is a file with a limit."""
+    reader, writer = full_pipe()
+    runner.hold("script a.wq to a full pipe", runner.run("script a.wq", stdout=writer), (1, None, b"output: Unwritable\n"))
+    os.close(reader)
+    os.close(writer)
+    limit = lambda: resource.setrlimit(resource.RLIMIT_FSIZE, (MOST_WRITTEN, MOST_WRITTEN))
+    with tempfile.TemporaryFile() as file:
+        got = runner.run("script a.wq", stdout=file, preexec_fn=limit)
+        file.seek(0)
+        runner.hold("script a.wq to a file with a limit", (*got, file.read()), (-signal.SIGXFSZ, None, b"", QUEUED[:MOST_WRITTEN]))
+
+
 def main(program):
     with tempfile.TemporaryDirectory() as folder, open("/dev/full", "wb") as full:
         for name, text in FILES.items():
@@ -190,6 +242,8 @@ def main(program):
         runner.hold("by a name that is no text", runner.run("", own_name=b"\xff"), UNREADABLE)
         for kind, words, want in INPUTS:
             runner.hold(f"{words} on a {kind}", runner.run_on(kind, words), want)
+        for size, want in SIZES:
+            runner.hold(f"on a script of {size} bytes", runner.run("", input=script_of(size)), want)
         for words, status, faults in FULL_OUTPUT:
             runner.hold(words, runner.run(words, stdout=full), (status, None, faults))
         for words, status in FULL:
@@ -201,6 +255,7 @@ def main(program):
         for words, status in UNREAD_FAULTS:
             runner.hold(words, runner.run(words, stderr=pipe), (status, b"", None))
         os.close(pipe)
+        hold_outputs_that_end(runner)
     print(f"{runner.count} command lines, {runner.failed} failed")
     return 1 if runner.failed else 0
 
