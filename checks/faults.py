@@ -2,7 +2,8 @@
 """Runs the program that is named with one call of libc failing, each in turn: faults.py PROGRAM.
 
 A read fails, is interrupted, or each gives one byte; the same of writes to standard output, of which one may take nothing; an
-allocation or a thread is refused (checks/c/faults.c). What has to come of it is what docs/FORMATS.md says, of the very program: want
+allocation or a thread is refused (checks/c/faults.c). The program runs each subcommand, a script from standard input without words,
+help, the version, and on words that it refuses. What has to come of it is what docs/FORMATS.md says, of the very program: want
 of memory or of a thread is status 3, a reader or a writer that fails status 1, each with its line; else the output is the right one.
 What a writer that failed has taken is a beginning of that. It wants a C compiler.
 """
@@ -19,7 +20,8 @@ STEPS = b"steps 1\nitems 4\nsenders 2\n0 hold 1\n0 look\n0 link 1\n0 push 1\no t
 RIGHT_TRACE, WRONG_TRACE = b"trace 1\nitems 2\nqueue 0\nstart 0\nend 0\n", b"trace 1\nitems 2\nqueue 0\nstart 1\nqueue 1\n"
 LONE_PLAN = b'{"queues":1,"workers":1,"senders":2,"own":3}'
 POOL_PLAN = b'{"queues":2,"workers":2,"senders":2,"own":2}'
-RUNS = {"script": SCRIPT, "steps": STEPS, "steps --history": STEPS, "check": RIGHT_TRACE, "check --drained": WRONG_TRACE}
+# without words a script is read from standard input
+RUNS = {"": SCRIPT, "script": SCRIPT, "steps": STEPS, "steps --history": STEPS, "check": RIGHT_TRACE, "check --drained": WRONG_TRACE}
 PLANS = {"a lone plan": LONE_PLAN, "a plan over a pool": POOL_PLAN}
 # Which of its threads a plan wants for sure. A pool's further workers want none of their own, and are made while others still are.
 WANTED_THREADS = {"a lone plan": range(1, 5000), "a plan over a pool": [1]}
@@ -36,6 +38,9 @@ FAULTS = {
     "thread fails": (MEMORY, False),
 }
 EVERY_CALL = ["reads give a byte", "writes take a byte"]
+# words that no text belongs to, and which faults can come of them: what is wrong with words is written on standard error
+OUTPUT_FAULTS = ["write fails", "write takes nothing", "write is interrupted", "writes take a byte", "allocation fails"]
+TEXTLESS = {"--help": OUTPUT_FAULTS, "--version": OUTPUT_FAULTS, "race": ["allocation fails"]}
 MOST = 5000
 
 
@@ -56,7 +61,9 @@ class Runner:
         file.write_bytes(text)
         self.told.unlink(missing_ok=True)
         env = {**os.environ, **self.preload, "FAULT": fault, "FAULT_AT": str(place)}
-        ran = subprocess.run([self.program, *words.split(), file], env=env, capture_output=True, timeout=60)
+        line = [self.program, *words.split(), *([file] if words and words not in TEXTLESS else [])]
+        with file.open("rb") as given:
+            ran = subprocess.run(line, env=env, stdin=given, capture_output=True, timeout=60)
         return (ran.returncode, ran.stdout, ran.stderr), self.told.exists()
 
 
@@ -70,18 +77,21 @@ def is_as_wanted(got, right, fault, must_come):
     return right[1].startswith(output) if other == UNWRITABLE else output == b""
 
 
+def can_come(fault, words):
+    """Whether such a fault can come where the program is run on these words."""
+    return fault in TEXTLESS[words] if words in TEXTLESS else fault != "thread fails" or words.startswith("live")
+
+
 def faults_of(runner, name, words, text):
     """What does not come as it has to, and how often the program was run."""
     right, _ = runner.run(words, text)
     found, count = [], 0
-    for fault in EVERY_CALL:
+    for fault in (it for it in EVERY_CALL if can_come(it, words)):
         got, has_come = runner.run(words, text, fault)
         found += [f"{name}, {fault}: {got} and not {right}"] if got != right else []
         found += [f"{name}: no {fault} ever comes"] if not has_come else []
         count += 1
-    for fault in FAULTS:
-        if fault == "thread fails" and not words.startswith("live"):
-            continue
+    for fault in (it for it in FAULTS if can_come(it, words)):
         for place in range(1, MOST):
             got, has_come = runner.run(words, text, fault, place)
             count += 1
@@ -101,7 +111,8 @@ def main(program):
     program, found, count = Path(program).resolve(), [], 0
     with tempfile.TemporaryDirectory() as folder:
         runner = Runner(program, folder)
-        runs = [(words, words, text) for words, text in RUNS.items()] + [(name, "live", text) for name, text in PLANS.items()]
+        runs = [(words or "no words", words, text) for words, text in RUNS.items()] + [(name, "live", text) for name, text in PLANS.items()]
+        runs += [(words, words, b"") for words in TEXTLESS]
         for name, words, text in runs:
             more, runs_of_it = faults_of(runner, name, words, text)
             found, count = found + more, count + runs_of_it
