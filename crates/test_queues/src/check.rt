@@ -1,7 +1,6 @@
 //! Checkers of recorded histories and traces: each cause, and what a report says.
-use crate::expect::expect_same;
+use crate::expect::{expect_same, expect_words};
 use std::alloc::Global;
-use std::fmt::Display;
 use std::process::Abort;
 use wq_check::EventError::{NoItem, NoSeat, NotAllowed};
 use wq_check::{
@@ -333,11 +332,6 @@ const WORDS: &[(Cause, &str)] = &[
     (Cause::Next(7), "next 7"),
     (Cause::NotEnded, "not ended"),
 ];
-
-fn expect_words<R: Abort, T: Display>(rt: &R, alloc: Global, of: &T, words: &str) {
-    let text = format!(in alloc; "{of}").expect(rt, "memory");
-    expect_same(rt, text.as_str(), words);
-}
 
 #[test]
 fn words_of_causes_and_errors(rt: HostRuntime) {

@@ -1,6 +1,6 @@
 //! The machine of steps: what it refuses, and what holds after each step of a schedule, whichever seat stops in it. The schedules
 //! are those of `schedules.rows` and `draining_schedules.rows` in `checks/rows`, which say what each step replies.
-use crate::expect::expect_same;
+use crate::expect::{expect_same, expect_words};
 use std::process::Abort;
 use wq_core::Reply::Held;
 use wq_core::Step::{
@@ -8,7 +8,8 @@ use wq_core::Step::{
 };
 use wq_core::{Reply, Seat, Step, chain_and_batch, each_step_keeps_sound, first_push};
 use wq_machine::{Core, ReplayError, StepError, replay, replay_on};
-use wq_text::{Schedule, parse_steps};
+use wq_meaning::RunError;
+use wq_text::{ParseError, Schedule, parse_steps};
 use wq_words::{Event, Head, Layout, Why, check_history};
 
 const S0: Seat = Seat::Sender(0);
@@ -346,4 +347,24 @@ fn laws(rt: HostRuntime) {
     each_step_keeps_sound();
     chain_and_batch();
     first_push();
+}
+
+#[test]
+fn words_of_errors(rt: HostRuntime) {
+    let alloc = rt.alloc();
+    for &(error, words) in &[
+        (StepError::NoSeat, "no step of a seat of the queue"),
+        (StepError::NoItem, "no number of the queue"),
+        (StepError::NotEnabled, "not enabled"),
+        (StepError::Memory, "memory"),
+    ] {
+        expect_words(&rt, alloc, &error, words);
+    }
+    let error = ReplayError {
+        at: 2,
+        why: StepError::NotEnabled,
+    };
+    expect_words(&rt, alloc, &error, "step 2: not enabled");
+    expect_words(&rt, alloc, &RunError::Memory, "memory");
+    expect_words(&rt, alloc, &ParseError::Memory, "memory");
 }
