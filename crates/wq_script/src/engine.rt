@@ -1,6 +1,7 @@
 //! The engine of scripts over the words that threads could share.
 ghost use Rattle.std.specs.Prelude.{◌≡◌, ℕ, ◌+◌, ◌^◌, ◌≤◌, List, length, IfOk, OnOk, string_bytes};
 ghost use Rattle.wq_text.specs.Fits.{Fits};
+ghost use Rattle.wq_text.specs.TextLimits.{most_script_senders};
 ghost use Rattle.wq_meaning.specs.Commands.{opening_state};
 ghost use Rattle.wq_meaning.specs.Report.{counts_of};
 
@@ -27,7 +28,7 @@ impl Engine {
 
     // An open queue with nothing in it, and empty lists.
     pub(crate) fn new(alloc: Global, layout: Layout) -> Result<Engine, AllocError>
-        requires { layout.senders ≤ 62 }
+        requires { layout.senders ≤ most_script_senders }
         ensures layout { IfOk result (λ e. e.layout ≡ layout) }
         ensures meets { IfOk result (λ e. Meets e (opening_state layout)) }
     {

@@ -1,5 +1,6 @@
 //! All seats of a queue, and how each hears what one of them has seen.
 ghost use Rattle.std.specs.Prelude.{◌≡◌, ◌<◌, not, List, length, All, slice_index_or, IfOk, MatchOption, ◌+◌, ◌≤◌, [], replicate, slice_set};
+ghost use Rattle.wq_text.specs.TextLimits.{most_script_senders};
 ghost use Rattle.wq_meaning.specs.Arming.{posted_items};
 ghost use Rattle.wq_meaning.specs.Execution.{no_follow};
 ghost use Rattle.wq_words.specs.declared.layout.Layout.{Layout};
@@ -47,7 +48,7 @@ fn meet_each(delay: &mut Delay, senders: &mut Vec<Sender>)
 impl Seats {
     // The seats of a new queue, with a sender for each of the layout's, one for the worker and one for the delay table.
     pub(crate) fn new(alloc: Global, layout: Layout) -> Result<Seats, AllocError>
-        requires { layout.senders ≤ 62 }
+        requires { layout.senders ≤ most_script_senders }
         ensures seated { IfOk result (λ s. Seated layout s []) }
         ensures lists { IfOk result (λ s. s.worker.work.follows.items ≡ replicate layout.items no_follow) }
         ensures table { IfOk result (λ s. s.delay.table ≡ record { entries = []; tick = 0; next = 0 }) }

@@ -4,6 +4,7 @@ use Rattle.wq_text.proofs.Common.{Err, position, ◌==◌, refl, sym, ap, ◌∙
 use Rattle.wq_text.proofs.Common.{position_or_len, onto_first, option_to_list, cases_lt, lt-ltb, le-ltb, eqb-true, eqb-false, append-nil, Layout, ScriptError}
 use Rattle.wq_text.proofs.Common.{RefusedFor, Stage, layout_at, Lines, LinesLead, Spells, HasLineFault, IsRefusal, end_fault, parts}
 use Rattle.std.proofs.lemmas.List.Splits.{slice_split-cons_no, slice_split_first, length-slice_split}
+use Rattle.wq_text.specs.TextLimits.{most_bytes}
 use Rattle.wq_text.specs.declared.fault.Kind.TheVariants as kind
 use Rattle.wq_text.specs.declared.fault.ParseError.{ParseError}
 use Rattle.wq_text.specs.declared.fault.ParseError.TheVariants as errors
@@ -80,7 +81,7 @@ module _ {A : Type 0} (gives : Lines A) where
         number = omega (arith, read.number, length-append read.before (line ∷ []));
       }
 
-  faulty_at : (text rest line : List ℕ) (behind : List (List ℕ)) (n : ℕ) (s : Stage) (asked : List A) (e : ScriptError) → length text ≤ 1048576
+  faulty_at : (text rest line : List ℕ) (behind : List (List ℕ)) (n : ℕ) (s : Stage) (asked : List A) (e : ScriptError) → length text ≤ most_bytes
       → IsReadTo text rest n s asked
       → parts rest ≡ line ∷ behind → e.line ≡ n → HasLineFault gives s line behind e.kind → IsRefusal gives text e
   faulty_at text rest line behind n s asked e short read cut here fault =
@@ -99,7 +100,7 @@ module _ {A : Type 0} (gives : Lines A) where
         fault = fault;
       })
 
-  pub faulty_line : (text rest line after : List ℕ) (n : ℕ) (s : Stage) (asked : List A) (e : ScriptError) → length text ≤ 1048576
+  pub faulty_line : (text rest line after : List ℕ) (n : ℕ) (s : Stage) (asked : List A) (e : ScriptError) → length text ≤ most_bytes
       → IsReadTo text rest n s asked
       → parts rest ≡ line ∷ parts after → e.line ≡ n → gives s line ≡ Err e.kind → IsRefusal gives text e
   faulty_line text rest line after n s asked e short read cut here given =
@@ -109,7 +110,7 @@ module _ {A : Type 0} (gives : Lines A) where
       followed [] some = absurd (omega (arith, some))
       followed (p ∷ ps) some = given
 
-  pub cut_short : (text rest : List ℕ) (n : ℕ) (s : Stage) (asked : List A) (e : ScriptError) → length text ≤ 1048576 → IsReadTo text rest n s asked
+  pub cut_short : (text rest : List ℕ) (n : ℕ) (s : Stage) (asked : List A) (e : ScriptError) → length text ≤ most_bytes → IsReadTo text rest n s asked
       → parts rest ≡ rest ∷ [] → (length rest == 0) ≡ false → e.line ≡ n → e.kind ≡ kind.Cut → IsRefusal gives text e
   cut_short text rest n s asked e short read last some here is_cut = faulty_at text rest rest [] n s asked e short read last here (unended rest some)
     where
@@ -121,12 +122,12 @@ module _ {A : Type 0} (gives : Lines A) where
   nothing_left [] none = refl
   nothing_left (b ∷ bs) none = absurd (omega (arith, eqb-true (length (b ∷ bs)) 0 none))
 
-  pub no_header : (text rest : List ℕ) (n : ℕ) (s : Stage) (asked : List A) (e : ScriptError) → length text ≤ 1048576 → IsReadTo text rest n s asked
+  pub no_header : (text rest : List ℕ) (n : ℕ) (s : Stage) (asked : List A) (e : ScriptError) → length text ≤ most_bytes → IsReadTo text rest n s asked
       → parts rest ≡ rest ∷ [] → (length rest == 0) ≡ true → e.line ≡ n → end_fault s ≡ Some e.kind → IsRefusal gives text e
   no_header text rest n s asked e short read last none here fault =
       faulty_at text rest [] [] n s asked e short read (last ∙ ap (λ (x : List ℕ). x ∷ []) (nothing_left rest none)) here fault
 
-  pub spelled : (text rest : List ℕ) (n : ℕ) (s : Stage) (layout : Layout) (asked : List A) → length text ≤ 1048576 → IsReadTo text rest n s asked
+  pub spelled : (text rest : List ℕ) (n : ℕ) (s : Stage) (layout : Layout) (asked : List A) → length text ≤ most_bytes → IsReadTo text rest n s asked
       → parts rest ≡ rest ∷ [] → (length rest == 0) ≡ true → layout_at s ≡ Some layout → Spells gives text layout asked
   spelled text rest n s layout asked short read last none whole =
       let split = read.split ∙ ap (λ ps. read.before ++ ps) (last ∙ ap (λ (x : List ℕ). x ∷ []) (nothing_left rest none)) in

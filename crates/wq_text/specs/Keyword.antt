@@ -10,6 +10,7 @@ use Rattle.wq_text.specs.declared.keyword.Keyword.{Keyword}
 use Rattle.wq_text.specs.declared.keyword.Keyword.TheVariants as keyword
 use Rattle.wq_text.specs.Arguments.{number, sender, item, barrier, limit, no_word, one, two, one_and_at_most}
 use Rattle.wq_text.specs.Fault.{of_none, of_one, of_two}
+use Rattle.wq_text.specs.TextLimits.{most_script_senders}
 use Rattle.wq_text.specs.Line.{Grammar, Lines}
 use Rattle.wq_text.specs.Version.{lines_of_version}
 
@@ -57,7 +58,7 @@ abbrev pub script_grammar : Grammar Keyword Command
 script_grammar = record {
   version = codes "wq 1";
   names_seats = true;
-  most = record { items = most_text_items; senders = 62 };
+  most = record { items = most_text_items; senders = most_script_senders };
   names = λ w ws. keyword_at w;
   asks = λ l k w ws. command_gives l k ws;
 }
@@ -67,7 +68,7 @@ abbrev pub script_grammar_2 : Grammar Keyword Command
 script_grammar_2 = record {
   version = codes "wq 2";
   names_seats = true;
-  most = record { items = most_items; senders = 62 };
+  most = record { items = most_items; senders = most_script_senders };
   names = λ w ws. keyword_at_2 w;
   asks = λ l k w ws. command_gives l k ws;
 }

@@ -1,3 +1,4 @@
+pub mod TextLimits
 pub mod Fits
 pub mod Script
 pub mod Word

@@ -8,6 +8,7 @@ use Rattle.wq_text.specs.declared.fault.ScriptError.{ScriptError}
 use Rattle.wq_text.specs.declared.header.Stage.{Stage}
 use Rattle.wq_text.specs.declared.header.Stage.TheVariants as stage
 use Rattle.wq_text.specs.Header.{layout_at}
+use Rattle.wq_text.specs.TextLimits.{most_bytes}
 use Rattle.wq_text.specs.Line.{Lines}
 use Rattle.wq_text.specs.Word.{parts}
 
@@ -19,7 +20,7 @@ LinesLead {A} gives s (line ∷ lines) t asked =
 
 -- the text is short enough and ends behind lines without a fault, and with them the header is complete
 pub record Spells {A : Type 0} (gives : Lines A) (text : List ℕ) (layout : Layout) (asked : List A) : Type 0 where
-  pub short : length text ≤ 1048576
+  pub short : length text ≤ most_bytes
   pub lines : List (List ℕ)
   pub reached : Stage
   pub split : parts text ≡ lines ++ [] ∷ []
@@ -41,7 +42,7 @@ HasLineFault gives s [] [] k = end_fault s ≡ Some k
 
 -- the lines before the faulty one have no fault
 pub record IsFaultyAt {A : Type 0} (gives : Lines A) (text : List ℕ) (e : ScriptError) : Type 0 where
-  pub short : length text ≤ 1048576
+  pub short : length text ≤ most_bytes
   pub before : List (List ℕ)
   pub faulty : List ℕ
   pub behind : List (List ℕ)
@@ -53,7 +54,7 @@ pub record IsFaultyAt {A : Type 0} (gives : Lines A) (text : List ℕ) (e : Scri
   pub fault : HasLineFault gives reached faulty behind e.kind
 
 abbrev pub IsTooLong : List ℕ → ScriptError → Type 0
-IsTooLong text e = (1048576 < length text) × (e ≡ record { line = 1; kind = kind.Size })
+IsTooLong text e = (most_bytes < length text) × (e ≡ record { line = 1; kind = kind.Size })
 
 -- the text is too long, or this is its first faulty line and the first fault on it
 abbrev pub IsRefusal : {A : Type 0} → Lines A → List ℕ → ScriptError → Type 0

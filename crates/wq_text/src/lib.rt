@@ -23,7 +23,7 @@ pub use header::{Most, Stage};
 pub use line::{Language, read_line};
 pub use schedule::Schedule;
 pub use schedule_text::parse_steps;
-pub use script::Script;
+pub use script::{MOST_SCRIPT_SENDERS, Script};
 pub use script_text::parse;
 pub use text::{MOST_BYTES, layout_at_end};
 pub use turn::{number_of_queue, seat_and_number, why_of, without_first, without_last};

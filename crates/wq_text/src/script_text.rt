@@ -3,6 +3,7 @@ ghost use Rattle.std.specs.Prelude.{◌≤◌, length, IfOk};
 ghost use Rattle.wq_text.specs.Fault.{IfRefused};
 ghost use Rattle.wq_text.specs.Fits.{Fits};
 ghost use Rattle.wq_text.specs.Keyword.{script_grammar, script_grammar_2, script_lines};
+ghost use Rattle.wq_text.specs.TextLimits.{most_bytes, most_script_senders};
 ghost use Rattle.wq_text.specs.Script.{layout_of, commands_of};
 ghost use Rattle.wq_text.specs.Sound.{AreSound};
 ghost use Rattle.wq_text.specs.Text.{Spells, IsRefusal, HasOneOutcome};
@@ -12,7 +13,7 @@ use crate::fault::{LineError, ParseError};
 use crate::header::Most;
 use crate::keyword::{Keyword, command, keyword_of, keyword_of_2};
 use crate::line::Language;
-use crate::script::Script;
+use crate::script::{MOST_SCRIPT_SENDERS, Script};
 use crate::text::{is_of, read};
 use std::alloc::Global;
 use wq_words::{Layout, MOST_ITEMS, MOST_TEXT_ITEMS};
@@ -40,7 +41,7 @@ impl Language for Commands {
     fn most() -> Most {
         Most {
             items: MOST_TEXT_ITEMS,
-            senders: 62,
+            senders: MOST_SCRIPT_SENDERS,
         }
     }
 
@@ -81,7 +82,7 @@ impl Language for Commands2 {
     fn most() -> Most {
         Most {
             items: MOST_ITEMS,
-            senders: 62,
+            senders: MOST_SCRIPT_SENDERS,
         }
     }
 
@@ -103,8 +104,8 @@ impl Language for Commands2 {
 fn read_script(alloc: Global, text: &[u8]) -> Result<(Layout, Vec<Command>), ParseError>
     ensures spells { IfOk result (λ x. Spells (script_lines text.now) text.now x.0 x.1.items) }
     ensures refused { IfRefused result (IsRefusal (script_lines text.now) text.now) }
-    ensures sound { IfOk result (λ x. AreSound 62 Fits x.0 x.1.items) }
-    ensures few { IfOk result (λ x. length x.1.items ≤ 1048576) }
+    ensures sound { IfOk result (λ x. AreSound most_script_senders Fits x.0 x.1.items) }
+    ensures few { IfOk result (λ x. length x.1.items ≤ most_bytes) }
 {
     if is_of::<Commands2>(text) {
         read::<Commands2>(alloc, text)

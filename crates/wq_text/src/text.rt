@@ -3,6 +3,7 @@ ghost use Rattle.std.specs.Prelude.{◌≡◌, ◌≢◌, ◌+◌, ◌<◌, ◌�
 ghost use Rattle.std.specs.Option.{option_to_list};
 ghost use Rattle.wq_text.specs.Fault.{IfRefused};
 ghost use Rattle.wq_text.specs.Header.{layout_at};
+ghost use Rattle.wq_text.specs.TextLimits.{most_bytes};
 ghost use Rattle.wq_text.specs.Line.{line_gives};
 ghost use Rattle.wq_text.specs.Text.{Spells, IsRefusal, end_fault};
 ghost use Rattle.wq_text.specs.Sound.{KeepsSound, AreSound};
@@ -104,7 +105,7 @@ pub(crate) fn read<L: Language>(
     ensures spells { IfOk result (λ x. Spells (line_gives L.grammar) text.now x.0 x.1.items) }
     ensures refused { IfRefused result (IsRefusal (line_gives L.grammar) text.now) }
     ensures sound { IfOk result (λ x. AreSound L.grammar.most.senders L.fits x.0 x.1.items) }
-    ensures few { IfOk result (λ x. length x.1.items ≤ 1048576) }
+    ensures few { IfOk result (λ x. length x.1.items ≤ most_bytes) }
 {
     if text.len() > MOST_BYTES {
         return Err(refused(1, Kind::Size));
