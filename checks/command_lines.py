@@ -121,7 +121,8 @@ MOST_BYTES = 1048576
 SIZES = [(MOST_BYTES, (0, CLOSED, b"")), (MOST_BYTES + 1, (1, b"", b"line 1: Size\n"))]
 
 # Standard input that is no pipe: a file of which something was read before, a socket, a folder, and none at all; and a pipe that
-# has nothing yet and does not wait. `/dev/stdin` is opened anew, so a file is read from its beginning, and a socket cannot be opened.
+# has nothing yet and does not wait. `/dev/stdin` is opened anew, so a file is read from its beginning, and a socket cannot be
+# opened.
 UNREADABLE = (1, b"", b"file: Unreadable\n")
 INPUTS = [
     ("file", "", (0, CLOSED, b"")),

@@ -21,7 +21,8 @@ RIGHT_TRACE, WRONG_TRACE = b"trace 1\nitems 2\nqueue 0\nstart 0\nend 0\n", b"tra
 LONE_PLAN = b'{"queues":1,"workers":1,"senders":2,"own":3}'
 POOL_PLAN = b'{"queues":2,"workers":2,"senders":2,"own":2}'
 # without words a script is read from standard input
-RUNS = {"": SCRIPT, "script": SCRIPT, "steps": STEPS, "steps --history": STEPS, "check": RIGHT_TRACE, "check --drained": WRONG_TRACE}
+RUNS = {"": SCRIPT, "script": SCRIPT, "steps": STEPS, "steps --history": STEPS}
+RUNS |= {"check": RIGHT_TRACE, "check --drained": WRONG_TRACE}
 PLANS = {"a lone plan": LONE_PLAN, "a plan over a pool": POOL_PLAN}
 # Which of its threads a plan wants for sure. A pool's further workers want none of their own, and are made while others still are.
 WANTED_THREADS = {"a lone plan": range(1, 5000), "a plan over a pool": [1]}
@@ -111,7 +112,8 @@ def main(program):
     program, found, count = Path(program).resolve(), [], 0
     with tempfile.TemporaryDirectory() as folder:
         runner = Runner(program, folder)
-        runs = [(words or "no words", words, text) for words, text in RUNS.items()] + [(name, "live", text) for name, text in PLANS.items()]
+        runs = [(words or "no words", words, text) for words, text in RUNS.items()]
+        runs += [(name, "live", text) for name, text in PLANS.items()]
         runs += [(words, words, b"") for words in TEXTLESS]
         for name, words, text in runs:
             more, runs_of_it = faults_of(runner, name, words, text)

@@ -3,8 +3,8 @@
 
 Both languages in both versions; each second text is spoiled in one place. The models are written from the tables of that page: a
 queue and its delay table as plain lists, whose commands are taken whole, and the words of the machine of single steps. What is
-compared is all that is written and the status, so a refusal's line and its kind too. Each kind of refusal but Size comes, and of each
-command and each step each line of output that it may have. A text that fails is made again from its number.
+compared is all that is written and the status, so a refusal's line and its kind too. Each kind of refusal but Size comes, and of
+each command and each step each line of output that it may have. A text that fails is made again from its number.
 """
 import random
 import re
@@ -488,7 +488,7 @@ def read(text, kinds):
 
 
 def outcome(text, kinds):
-    """The status, and what is written on standard output and standard error; and the lines of each command or step, with its word."""
+    """The status, and what is written on standard output and standard error; and each line of a command or a step, with its word."""
     try:
         language, said = read(text, kinds)
     except Refused as refused:
