@@ -10,6 +10,7 @@ import importlib.util
 import io
 import os
 import random
+import signal
 import subprocess
 import sys
 import tempfile
@@ -147,6 +148,16 @@ ROWS = [
             (started("aa", "my_wq_barrier_func").replace("kworker/u8:1", "wq_barrier_func"), "start 0"),
         ],
     ),
+    (
+        "functions whose names begin as that of a barrier",
+        [
+            (queued("aa", function="wq_bar"), "queue 0"),
+            (started("aa", "wq_bar"), "start 0"),
+            (ended("aa", "wq_bar"), "end 0"),
+            (queued("bb", function="wq_barrier_fun"), "queue 1"),
+            (started("bb", "wq_barrier_fun"), "start 1"),
+        ],
+    ),
     ("a work that runs twice, and twice at once", [*whole("aa", 0), (started("aa"), "start 0"), (started("aa"), "start 0")]),
     (
         "a work that goes to another queue, and comes back",
@@ -233,8 +244,19 @@ ROWS = [
         "the buffer was full, and its first lines were written over",
         [("# entries-in-buffer/entries-written: 4108/41080   #P:4", "lost")],
     ),
+    (
+        "the latency-format of ftrace, whose lines name their task otherwise and whose head has what was written over",
+        [
+            ("# tracer: nop", "#"),
+            ("#", "#"),
+            ("# nop latency trace v1.1.5 on 6.1.0", "#"),
+            ("# latency: 0 us, #4108/4108, CPU#0 | (M:desktop VP:0, KP:0, SP:0 HP:0 #P:4)", "lost"),
+        ],
+    ),
+    ("that format, where the first lines were written over", [("# latency: 0 us, #4/41080, CPU#0 | (M:desktop VP:0, #P:4)", "lost")]),
     ("addresses that are hidden", [("# tracer: nop", "#"), (queued("(____ptrval____)"), "lost")]),
     ("a hidden address of a start", [(queued("aa"), "queue 0"), (started("(____ptrval____)"), "lost")]),
+    ("a hidden address of an end", [*whole("aa", 0)[:2], (ended("(____ptrval____)"), "lost")]),
     (
         "lines of other events that have the name of one of these",
         [
@@ -283,6 +305,8 @@ OVERTAKES = [queued("aa"), queued("bb"), queued("aa"), started("bb")]
 OVERLAPS = [*OVERTAKES[:3], started("aa"), started("bb"), *ELSEWHERE]
 TWICE = [queued("aa"), started("aa"), ended("aa"), queued("aa"), queued("bb"), queued("aa"), "# the end"]
 LOST = "CPU:2 [LOST 120 EVENTS]"
+QUEUES = [f"q{number:02}" for number in range(21)]
+OF_QUEUES = [queued("aa", queue) for queue in QUEUES]
 
 
 def at(number, lines, what=""):
@@ -297,17 +321,18 @@ UNRECORDED = [
     ("execute_start", [queued("aa"), ended("aa"), queued("aa"), ended("aa"), queued("aa"), ended("aa")]),
     ("execute_start", [queued("aa"), queued("bb")]),
 ]
-# how many lines are written when the next one is read: what would look wrong without an event waits until that was seen
+# how many lines are written when the next one is read, and how many of these are handed on: what would look wrong without an event
+# waits until that was seen, and a mark waits for nothing else
 WRITTEN = [
-    ("# a comment", 1),
-    (queued("aa"), 2),
-    (queued("aa"), 2),
-    ("# a comment", 2),
-    (started("aa"), 5),
-    (queued("aa"), 5),
-    (ended("ee"), 7),
-    (queued("bb"), 8),
-    ("# a comment", 9),
+    ("# a comment", 1, 0),
+    (queued("aa"), 2, 2),
+    (queued("aa"), 2, 2),
+    ("# a comment", 2, 2),
+    (started("aa"), 5, 5),
+    (queued("aa"), 5, 5),
+    (ended("ee"), 7, 6),
+    (queued("bb"), 8, 8),
+    ("# a comment", 9, 8),
 ]
 
 # the lines, the status or what is said in place of a verdict, the first line of that, and the lines of the trace that are printed
@@ -360,6 +385,15 @@ VERDICTS = [
         "",
         "",
     ),
+    ("twenty other queues", OF_QUEUES[:20], f"nothing was queued on mine: the queues of this trace are {', '.join(QUEUES[:20])}", "", ""),
+    ("one more", OF_QUEUES, f"nothing was queued on mine: the queues of this trace are {', '.join(QUEUES[:20])}, ...", "", ""),
+    (
+        "the latency-format of ftrace",
+        ["# tracer: nop", "# latency: 0 us, #4/41080, CPU#0 | (M:desktop VP:0, #P:4)", *TWICE],
+        "line 2: a trace in ftrace's latency-format, which is not read, and nothing can be said from there on",
+        "",
+        "",
+    ),
     ("no trace", ["\x7fELF", ""], "nothing was queued on mine: this trace has no line of workqueue_queue_work", "", ""),
     (
         "hidden addresses",
@@ -368,6 +402,15 @@ VERDICTS = [
         "",
         "",
     ),
+]
+
+# the line of the item of a cause is looked for among the last 131,072, the one that decides among them
+FAR = [*OVERTAKES[:3], *["# a comment"] * (131072 - 4), OVERTAKES[3]]
+NINE = [*(queued(f"{work:x}") for work in range(9)), *ELSEWHERE]
+# the same, with room for many works
+WIDE = [
+    ("the one that is next was queued 131,071 lines before", FAR, 4, "not legal", at(len(FAR), FAR) + at(1, FAR, "queue 0, ")),
+    ("of nine that are left eight are named", NINE, 4, "legal", "".join(at(it + 1, NINE, f"queue {it}, ") for it in range(8))),
 ]
 
 LEGAL = "".join(f"{line}\n" for line in TWICE[:3]).encode()
@@ -444,16 +487,29 @@ def hold_marks(converter):
         converter.hold(shows, (written, bool(why)), (wanted, wanted[-1] == "lost"))
 
 
+class Output(io.StringIO):
+    """What was written, and how much of it was handed on."""
+
+    handed = 0
+
+    def flush(self):
+        self.handed = self.count()
+
+    def count(self):
+        """How many lines were written behind the two of the header."""
+        return self.getvalue().count("\n") - 2
+
+
 def hold_written(converter):
-    to, written = io.StringIO(), []
+    to, written = Output(), []
 
     def lines():
-        for line, _ in WRITTEN:
+        for line, *_ in WRITTEN:
             yield f"{line}\n"
-            written.append(to.getvalue().count("\n") - 2)
+            written.append((to.count(), to.handed))
 
     converter.module.write_marks(lines(), "mine", to, deque())
-    converter.hold("what is written while the lines come", written, [count for _, count in WRITTEN])
+    converter.hold("what is written while the lines come", written, [(count, handed) for _, count, handed in WRITTEN])
 
 
 WORKERS = {"mine": 57, "other": 58, "third": 59}
@@ -517,9 +573,9 @@ def hold_burst(converter):
     converter.hold("a burst", (written[-1], why, time.process_time() - began < 10), ("queue 59999", None, True))
 
 
-def hold_verdicts(converter):
-    converter.module.ITEMS = ITEMS
-    for shows, lines, status, verdict, named in VERDICTS:
+def hold_verdicts(converter, rows, items):
+    converter.module.ITEMS = items
+    for shows, lines, status, verdict, named in rows:
         ended, printed = converter.checks(lines)
         line, trace = printed.partition("\n")[0], "".join(it for it in printed.splitlines(True) if "line" in it and "work struct" in it)
         converter.hold(shows, (ended, line, trace), (status, verdict, named))
@@ -536,6 +592,15 @@ def hold_words(converter, folder, rows):
             converter.hold(f"wq_trace.py {words} {shell}", "no end", status)
 
 
+def hold_unread(converter):
+    """Where nobody reads on it ends by the signal, and says nothing."""
+    unread, output = os.pipe()
+    os.close(unread)
+    ran = subprocess.run([sys.executable, CONVERTER, "mine"], input=LEGAL, stdout=output, stderr=subprocess.PIPE, timeout=120)
+    os.close(output)
+    converter.hold("an output that nobody reads", (ran.returncode, ran.stderr), (-signal.SIGPIPE, b""))
+
+
 def main(program=None):
     converter, path = Converter(), os.environ["PATH"]
     # an output that cannot be written is found as late as it is by default
@@ -549,8 +614,10 @@ def main(program=None):
         wqrun.write_text(MODEL.format(checks=str(CONVERTER.parents[2] / "checks")))
         wqrun.chmod(0o755)
         os.environ["PATH"] = f"{Path(program).resolve().parent if program else folder}:{path}"
-        hold_verdicts(converter)
+        hold_verdicts(converter, VERDICTS, ITEMS)
+        hold_verdicts(converter, WIDE, 65536)
         hold_words(converter, folder, WORDS)
+        hold_unread(converter)
         wqrun.write_text(LONG)
         os.environ["PATH"] = f"{folder}:{path}"
         hold_words(converter, folder, [("--check mine", LEGAL * 10000, "", 4, "legal\n")])

@@ -82,6 +82,8 @@ class Queue:
         return self.numbers[address]
 
     def mark(self, line):
+        if line.startswith("# latency: "):
+            raise Lost("a trace in ftrace's latency-format, which is not read")
         if LOST.search(line):
             raise Lost("events were lost")
         if not line.endswith("\n"):
