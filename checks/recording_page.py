@@ -1,5 +1,6 @@
 #!/usr/bin/env python3
-"""Does what docs/RECORDING.md says, in each of its languages that is installed: recording_page.py PROGRAM.
+"""Does what docs/RECORDING.md says, in C and, where it is installed, in Rust; its lines in Go are not compiled:
+recording_page.py PROGRAM.
 
 The page's own lines, as they stand, are put where it says into a queue under a lock, with three senders and one worker.
 What the queue then prints must be legal and drained, as PROGRAM judges it. Rust is left out where no compiler of it runs; one of C is
