@@ -1,5 +1,5 @@
 -- What is said of the bytes of a recording of either kind.
-use Rattle.std.specs.Prelude.{◌≡◌, ℕ, ◌-◌, Bool, false, List, [], ◌∷◌, drop, Option, Some, None, codes, MatchBool, if◌then◌else◌}
+use Rattle.std.specs.Prelude.{◌≡◌, ℕ, ◌+◌, ◌-◌, Bool, false, List, [], ◌∷◌, drop, Option, Some, None, codes, MatchBool, if◌then◌else◌}
 use Rattle.std.specs.Str.{bytes_eq}
 use Rattle.wq_check.specs.declared.mark.Mark.{Mark}
 use Rattle.wq_text.specs.declared.fault.ScriptError.{ScriptError}
@@ -9,6 +9,7 @@ use Rattle.wq_recording.specs.declared.entry.Entry.{Entry}
 use Rattle.wq_recording.specs.declared.finding.Finding.{Finding}
 use Rattle.wq_recording.specs.History.{history_grammar}
 use Rattle.wq_recording.specs.HistoryReport.{history_rules}
+use Rattle.wq_recording.specs.Lines.{most_line_bytes}
 use Rattle.wq_recording.specs.declared.stop.Stop.{Stop}
 use Rattle.wq_recording.specs.Trace.{trace_grammar}
 use Rattle.wq_recording.specs.TraceReport.{trace_rules}
@@ -47,8 +48,8 @@ IsReadThrough (Some stop) text left = parts left ≡ drop stop.line (parts text)
 -- what is left of a line and the parts behind it once the line was read: those parts, where its LF is among its first 4,097 bytes,
 -- and else all that stands behind these bytes
 abbrev pub unread : List (List ℕ) → List (List ℕ)
-unread (line ∷ next ∷ more) = if is_short line then next ∷ more else drop 4097 line ∷ next ∷ more
-unread (rest ∷ []) = drop 4097 rest ∷ []
+unread (line ∷ next ∷ more) = if is_short line then next ∷ more else drop (most_line_bytes + 1) line ∷ next ∷ more
+unread (rest ∷ []) = drop (most_line_bytes + 1) rest ∷ []
 unread [] = []
 
 -- the text was read through the line that is refused and no further, and of a line that is too long 4,097 bytes

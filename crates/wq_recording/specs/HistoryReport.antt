@@ -17,20 +17,16 @@ use Rattle.wq_recording.specs.Verdict.{Rules}
 abbrev pub count_lines : List (List ℕ × ℕ) → List ℕ
 count_lines counts = flat_map (λ (c : List ℕ × ℕ). count_line c.0 c.1) counts
 
-abbrev pub executed_lines : Report → List ℕ
-executed_lines r = count_lines (
+abbrev pub event_count_lines : Report → List ℕ
+event_count_lines r = count_lines (
     (codes "events", r.counts.events) ∷ (codes "accepted", r.counts.accepted) ∷ (codes "chained", r.counts.chained)
-    ∷ (codes "executed", r.counts.executed) ∷ [])
-
-abbrev pub waiting_lines : Report → List ℕ
-waiting_lines r = count_lines (
-    (codes "busy", r.counts.busy) ∷ (codes "refused", r.counts.refused) ∷ (codes "waiting", r.left)
-    ∷ (codes "most waiting", r.counts.most_waiting) ∷ [])
+    ∷ (codes "executed", r.counts.executed) ∷ (codes "busy", r.counts.busy) ∷ (codes "refused", r.counts.refused)
+    ∷ (codes "waiting", r.left) ∷ (codes "most waiting", r.counts.most_waiting) ∷ [])
 
 -- and behind them whether it is closed, and whether it is complete
 abbrev pub history_counts : Report → List ℕ
 history_counts r =
-    executed_lines r ++ waiting_lines r ++ line (if r.closed then codes "closed yes" else codes "closed no")
+    event_count_lines r ++ line (if r.closed then codes "closed yes" else codes "closed no")
     ++ line (if r.complete then codes "complete yes" else codes "complete no")
 
 abbrev pub history_rules : Rules Entry Event

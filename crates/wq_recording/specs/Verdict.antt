@@ -15,6 +15,7 @@ use Rattle.wq_text.specs.Line.{Grammar, Lines, line_gives}
 use Rattle.wq_text.specs.Text.{LinesLead, end_fault}
 use Rattle.wq_text.specs.Word.{parts}
 use Rattle.wq_recording.specs.declared.stop.Stop.{Stop}
+use Rattle.wq_recording.specs.Lines.{most_line_bytes}
 
 -- What one kind of recording has of its own: the events that a line tells, which events are legal, why one may not come after
 -- legal ones, what one is called, what is counted of them, and what they leave undone.
@@ -28,7 +29,7 @@ pub record Rules (A E : Type 0) : Type 1 where
 
 -- a line of a recording is short, which is tested before all else
 abbrev pub is_short : List ℕ → Bool
-is_short line = nat_le (length line) 4096
+is_short line = nat_le (length line) most_line_bytes
 
 abbrev pub short_line : {A : Type 0} → Lines A → Lines A
 short_line gives s line = do
@@ -126,7 +127,7 @@ IsDecidedByLine {A} {E} gives rules =
 
 -- line n is too long, whole or not
 abbrev pub IsTooLongAt : ℕ → List ℕ → Type 0
-IsTooLongAt n text = 4096 < length (get_or (parts text) (n - 1) [])
+IsTooLongAt n text = most_line_bytes < length (get_or (parts text) (n - 1) [])
 
 -- where that line is too long, neither the rest of it nor what stands behind it changes anything
 abbrev pub IsDecidedByLength : {N A E : Type 0} → Grammar N A → Rules A E → Type 0

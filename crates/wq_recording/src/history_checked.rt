@@ -5,7 +5,7 @@ ghost use Rattle.wq_check.specs.Causes.{HasEventError};
 ghost use Rattle.wq_check.specs.Checked.{IsAfter};
 ghost use Rattle.wq_check.specs.declared.cause.EventError.TheVariants.{NotAllowed};
 ghost use Rattle.wq_recording.specs.History.{IsEventOf};
-ghost use Rattle.wq_recording.specs.HistoryReport.{executed_lines, waiting_lines, history_counts};
+ghost use Rattle.wq_recording.specs.HistoryReport.{event_count_lines, history_counts};
 
 use crate::count_text::write_count_lines;
 use crate::entry::Entry;
@@ -35,7 +35,7 @@ fn tell_event(checker: &mut Checker, event: Event) -> Result<(), Cause>
 
 // Writes how many events, executions and queueings there were, and how many numbers wait.
 fn write_event_counts(report: Report, out: &mut String) -> Result<(), AllocError>
-    ensures { OnOk result (string_bytes out.new ≡ string_bytes out.old ++ (executed_lines report ++ waiting_lines report)) }
+    ensures { OnOk result (string_bytes out.new ≡ string_bytes out.old ++ event_count_lines report) }
 {
     let counts = [
         ("events", report.counts.events),

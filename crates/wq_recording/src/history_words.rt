@@ -4,7 +4,7 @@ ghost use Rattle.wq_text.specs.Fault.{LineGives};
 ghost use Rattle.wq_recording.specs.History.{alone, both, IsOf, owners_telling, senders_telling, telling_at, numbers_give, entry_of, entry_gives};
 
 use crate::entry::Entry;
-use crate::trace::item_of;
+use crate::one_item::one_item;
 use wq_text::{
     LineError, no_word, number_of_queue, one_word, seat_and_number, why_of, without_last,
 };
@@ -119,7 +119,7 @@ fn numbers_of(
             let word = one_word(words)?;
             Ok((0, number_of_queue(layout, word)?))
         }
-        Telling::Chain | Telling::ChainBusy => Ok((0, item_of(layout, words)?)),
+        Telling::Chain | Telling::ChainBusy => Ok((0, one_item(layout, words)?)),
     }
 }
 

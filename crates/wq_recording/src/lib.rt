@@ -13,6 +13,7 @@ mod history_words;
 mod judging;
 mod laws;
 mod lines;
+mod one_item;
 mod recording;
 mod stop;
 mod trace;
@@ -20,7 +21,6 @@ mod trace_checked;
 mod verdict_text;
 
 pub use checking::check;
-pub use entry::Entry;
 pub use error::CheckError;
 pub use finding::Finding;
 pub use history_text::{record_history, record_steps};

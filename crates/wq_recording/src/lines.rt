@@ -1,8 +1,8 @@
 //! The lines of a reader's bytes, one at a time: no more of them is held than one line.
-ghost use Rattle.std.specs.Prelude.{◌≡◌, ◌≢◌, ◌↔◌, ◌-◌, ◌<◌, ◌≤◌, All, length, take, slice_index, false, IsTrue, IfOk, OnOk};
+ghost use Rattle.std.specs.Prelude.{◌≡◌, ◌≢◌, ◌↔◌, ◌+◌, ◌-◌, ◌<◌, ◌≤◌, All, length, take, slice_index, false, IsTrue, IfOk, OnOk};
 ghost use Rattle.std.specs.Io.{StartsWith, StopsAt, IsEmptyOrEndsWith, appended_bytes};
 ghost use Rattle.std.specs.Io.KnownBytes.{Consumes};
-ghost use Rattle.wq_recording.specs.Lines.{IsLineRead, EndsOrGoesOn};
+ghost use Rattle.wq_recording.specs.Lines.{IsLineRead, EndsOrGoesOn, most_line_bytes};
 ghost use Rattle.wq_recording.specs.Parts.{IsLineOrRest};
 
 use std::io;
@@ -49,9 +49,9 @@ fn unless_interrupted(error: io::Error) -> io::Result<bool>
 // Appends what the reader has at hand of a line that is not whole. Whether it has come to its LF, to a byte too many, or to
 // the end of the input.
 fn append_part<B: BufRead>(reader: &mut B, line: &mut Vec<u8>) -> io::Result<bool>
-    requires room { length line.old.items ≤ 4097 }
+    requires room { length line.old.items ≤ most_line_bytes + 1 }
     requires none { All (λ x. x ≢ 10) line.old.items }
-    ensures room { length line.new.items ≤ 4097 }
+    ensures room { length line.new.items ≤ most_line_bytes + 1 }
     ensures stops { StopsAt line.new.items 10 }
     ensures appends { StartsWith line.new.items line.old.items }
     ensures bytes { Consumes (B.remaining reader.old) (B.remaining reader.new) (appended_bytes line.old.items line.new.items) }

@@ -1,11 +1,11 @@
 //! The language of traces.
-ghost use Rattle.std.specs.Prelude.{◌≡◌, ◌<◌, map, IfOk};
-ghost use Rattle.wq_text.specs.Arguments.{item, one};
+ghost use Rattle.std.specs.Prelude.{◌≡◌, map, IfOk};
 ghost use Rattle.wq_text.specs.Fault.{LineGives};
 ghost use Rattle.wq_recording.specs.Trace.{IsMarkOf, sight_of, mark_gives, trace_grammar};
 
+use crate::one_item::one_item;
 use wq_check::Mark;
-use wq_text::{Language, LineError, Most, item, one_word};
+use wq_text::{Language, LineError, Most};
 use wq_words::{Layout, MOST_ITEMS};
 
 // What a line shows, without its item.
@@ -29,22 +29,13 @@ fn sight_of(word: &str) -> Option<Sight>
     }
 }
 
-// The item in the one word that stands there.
-pub(crate) fn item_of(layout: Layout, words: &[&str]) -> Result<u32, LineError>
-    ensures exact { LineGives result (one (item layout) (map (λ w. w.now) words.now)) }
-    ensures within { IfOk result (λ n. n < layout.items) }
-{
-    let word = one_word(words)?;
-    item(layout, word)
-}
-
 // The mark of a line, from the words behind its first.
 #[tactic(auto, unfolding(crate::specs::Trace::mark_gives))]
 fn mark(layout: Layout, sight: Sight, words: &[&str]) -> Result<Mark, LineError>
     ensures exact { LineGives result (mark_gives layout sight (map (λ w. w.now) words.now)) }
     ensures of { IfOk result (IsMarkOf layout) }
 {
-    let number = item_of(layout, words)?;
+    let number = one_item(layout, words)?;
     match sight {
         Sight::Queue => Ok(Mark::Queue(number)),
         Sight::Start => Ok(Mark::Start(number)),
