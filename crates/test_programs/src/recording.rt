@@ -1,9 +1,10 @@
-//! Histories that are written as recordings, and read back.
+//! Histories that are written as recordings, and read back; and readers that fail.
 use crate::expect::expect_same;
 use std::alloc::Global;
+use std::io::{BufReader, Error, ErrorKind, Read, Result};
 use std::process::Abort;
 use wq_check::Cause;
-use wq_recording::{Stop, check, record_history};
+use wq_recording::{CheckError, Stop, check, record_history};
 use wq_words::Event::{Begin, Close, End, Hold, Push, Take};
 use wq_words::{Event, Layout};
 
@@ -57,4 +58,44 @@ fn stop_of_a_history_is_named(rt: HostRuntime) {
         (Some(stop), false, 1),
     );
     expect_same(&rt, rest, b"o end 1\no close\n".as_slice());
+}
+
+/// Gives a text, and fails behind it.
+#[derive(Drop)]
+struct Failing<'a> {
+    rest: &'a [u8],
+    cause: ErrorKind,
+}
+
+impl Read for Failing<'_> {
+    fn read(&mut self, buffer: &mut [u8]) -> Result<usize> {
+        let count = self.rest.len().min(buffer.len());
+        if count == 0 {
+            return Err(Error::from(self.cause));
+        }
+        buffer[..count].copy_from_slice(&self.rest[..count]);
+        self.rest = &self.rest[count..];
+        Ok(count)
+    }
+}
+
+/// The kind of the error with which the check of a reader ends.
+fn kind_of<R: Abort>(rt: &R, alloc: Global, reader: Failing<'_>) -> Option<ErrorKind> {
+    let mut reader = BufReader::new(alloc, reader).expect(rt, "memory");
+    match check(alloc, &mut reader) {
+        Err(CheckError::Read(error)) => Some(error.kind()),
+        _ => None,
+    }
+}
+
+/// Of a reader that fails at once, within a line, and behind one.
+#[test]
+fn readers_error_comes_back(rt: HostRuntime) {
+    let texts: &[&[u8]] = &[b"", b"trace", b"trace 1\nitems 2\n"];
+    for rest in texts {
+        for cause in [ErrorKind::BrokenPipe, ErrorKind::TimedOut] {
+            let reader = Failing { rest, cause };
+            expect_same(&rt, kind_of(&rt, rt.alloc(), reader), Some(cause));
+        }
+    }
 }
