@@ -1,5 +1,5 @@
 -- Steps one after another, as the other parts of a chair see them.
-use Rattle.wq_table.proofs.Common.{◌≡◌, ℕ, List, [], ◌∷◌, inr, ⊎_elim, refl, sym, ap, ◌∙◌, subst, Event, Step, Machine, after, Part, View, seat_at}
+use Rattle.wq_table.proofs.Common.{◌≡◌, ℕ, List, [], ◌∷◌, ⊎_elim, refl, sym, ap, ◌∙◌, subst, Event, Step, Machine, after, Part, View, seat_at}
 use Rattle.wq_table.proofs.Common.{IsPartOf, see, all_see, AllOf, chosen, besides, part_at}
 use Rattle.wq_words.proofs.Prefixes.{prefix_on}
 use Rattle.wq_table.specs.Chair.{Standing, besides_at, Steps}
@@ -49,44 +49,12 @@ follow_on at a b c x y = record {
   others_are = y.others_are ∙ (ap (all_see y.machine.history) x.others_are ∙ see_twice x.machine.history y.machine.history (besides_at at a));
 }
 
-pub beside_on : (at : ℕ) (a b c : Standing) → Beside at a b → Beside at b c → Beside at a c
-beside_on at a b c x y = ⊎_elim
-    (λ (e : b ≡ a). subst (λ (z : Standing). Beside at z c) e y)
-    (λ (f : Follow at a b). ⊎_elim (λ (e : c ≡ b). inr (subst (Follow at a) (sym e) f)) (λ (g : Follow at b c). inr (follow_on at a b c f g)) y) x
-
-pub beside_first : (at : ℕ) (step : Step) (word : ℕ) (a b : Standing) → Steps at step word a b → Beside at a b
-beside_first at step word a b steps = inr (follow_step at step word a b steps)
-
-pub beside_step : (at : ℕ) (step : Step) (word : ℕ) (a b c : Standing) → Beside at a b → Steps at step word b c → Beside at a c
-beside_step at step word a b c x steps = beside_on at a b c x (inr (follow_step at step word b c steps))
-
--- made steps, and maybe more
-pub follow_beside : (at : ℕ) (step : Step) (word : ℕ) (a b c : Standing) → Steps at step word a b → Beside at b c → Follow at a c
-follow_beside at step word a b c steps y = let f = follow_step at step word a b steps in ⊎_elim
-    (λ (e : c ≡ b). subst (Follow at a) (sym e) f) (λ (g : Follow at b c). follow_on at a b c f g) y
-
--- made steps, and then one
-pub follow_then : (at : ℕ) (step : Step) (word : ℕ) (a b c : Standing) → Follow at a b → Steps at step word b c → Follow at a c
-follow_then at step word a b c f steps = follow_on at a b c f (follow_step at step word b c steps)
-
--- made steps, or none, and then some
-pub beside_follow : (at : ℕ) (a b c : Standing) → Beside at a b → Follow at b c → Follow at a c
-beside_follow at a b c x g = ⊎_elim
-    (λ (e : b ≡ a). subst (λ (z : Standing). Follow at z c) e g) (λ (f : Follow at a b). follow_on at a b c f g) x
-
--- made steps, or none, and then one
-pub follow_after : (at : ℕ) (step : Step) (word : ℕ) (a b c : Standing) → Beside at a b → Steps at step word b c → Follow at a c
-follow_after at step word a b c x steps = beside_follow at a b c x (follow_step at step word b c steps)
-
 pub beside_queue : (at : ℕ) (a b : Standing) → Beside at a b → b.queue ≡ a.queue
 beside_queue at a b x = ⊎_elim (λ (e : b ≡ a). ap (λ (z : Standing). z.queue) e) (λ (f : Follow at a b). f.queue_is) x
 
 -- a chair of one part is still one
 pub alone_follow : (a b : Standing) → Follow 0 a b → a.others ≡ [] → b.others ≡ []
 alone_follow a b f none = f.others_are ∙ ap (all_see f.machine.history) none
-
-pub alone_step : (step : Step) (word : ℕ) (a b : Standing) → Steps 0 step word a b → a.others ≡ [] → b.others ≡ []
-alone_step step word a b steps none = alone_follow a b (follow_step 0 step word a b steps) none
 
 -- a part that was of the machine, and has then seen its whole history
 pub record Saw (m : Machine) (p q : Part) : Type 0 where

@@ -1,9 +1,9 @@
 -- What the parts of a chair were told of what is brought, from one of its steps to the next.
-use Rattle.wq_table.proofs.Common.{◌≡◌, ℕ, List, [], ◌∷◌, length, Option, inl, inr, ⊎_elim, refl, sym, ap, ◌∙◌, subst, arith, ◌<◌, IsPrefix, Event}
-use Rattle.wq_table.proofs.Common.{accepted, AreBrought, Layout, Step, Machine, IsSound, ValuePart, View, all_see, part_at, plain_view, AllKnow}
+use Rattle.wq_table.proofs.Common.{◌≡◌, ℕ, List, ◌∷◌, length, Option, inl, inr, ⊎_elim, refl, sym, ap, ◌∙◌, subst, arith, ◌<◌, IsPrefix, Event}
+use Rattle.wq_table.proofs.Common.{accepted, AreBrought, Layout, Step, Machine, IsSound, View, all_see, part_at, plain_view, AllKnow}
 use Rattle.wq_table.proofs.Common.{AllTold, ValueStanding, standing_of, ValueSteps}
 use Rattle.wq_table.specs.Chair.{SeatedIn}
-use Rattle.wq_table.specs.SlotChairs.{knowing, ValueMeet, ValueMeetAll}
+use Rattle.wq_table.specs.SlotChairs.{knowing, ValueMeet}
 use Rattle.wq_table.specs.Beside.{Learns, LearnsOrStays}
 use Rattle.wq_table.proofs.Places.{seeing_seen}
 use Rattle.wq_table.proofs.ValueRule.{all_more, plain_telling, told_all}
@@ -87,27 +87,10 @@ module _ {V : Type 0} where
         told = subst (λ (z : ValueStanding V). AllTold brs (z.first ∷ z.others)) (sym is) (told_all h brs (all_see h v) many (seeing_seen h v));
       }
 
-  -- each of two that meet
+  -- the first of two that meet
   module _ (this that this' that' : ValueStanding V) (meet : ValueMeet this that this' that') where
     pub learns_meet : Learns 0 this this'
     learns_meet = learns_knowing meet.machine meet.brought this this' meet.sound meet.as_many meet.right meet.this_fits meet.this_knows meet.this_is
-
-    pub learns_met : Learns 0 that that'
-    learns_met = learns_knowing meet.machine meet.brought that that' meet.sound meet.as_many
-        (λ some_slot. meet.right (omega (arith, some_slot, ap (λ q. q.slots) meet.queue_is))) meet.that_fits meet.that_knows meet.that_is
-
-  -- each of three
-  module _ (this that third this' that' third' : ValueStanding V) (meet : ValueMeetAll this that third this' that' third') where
-    pub learns_meet_all : Learns 0 this this'
-    learns_meet_all = learns_knowing meet.machine meet.brought this this' meet.sound meet.as_many meet.right meet.this_fits meet.this_knows meet.this_is
-
-    pub second_met_all : Learns 0 that that'
-    second_met_all = learns_knowing meet.machine meet.brought that that' meet.sound meet.as_many
-        (λ some_slot. meet.right (omega (arith, some_slot, ap (λ q. q.slots) meet.that_queue))) meet.that_fits meet.that_knows meet.that_is
-
-    pub third_met_all : Learns 0 third third'
-    third_met_all = learns_knowing meet.machine meet.brought third third' meet.sound meet.as_many
-        (λ some_slot. meet.right (omega (arith, some_slot, ap (λ q. q.slots) meet.third_queue))) meet.third_fits meet.third_knows meet.third_is
 
   -- without what was brought
   pub learns_follow : (at : ℕ) (a b : ValueStanding V) → LearnsOrStays at a b → Beside at (standing_of a) (standing_of b)
@@ -125,18 +108,3 @@ module _ {V : Type 0} where
 
     pub learns_many : length new.first.brought ≡ length (accepted new.first.part.seen)
     learns_many = ap length l.told.0 ∙ l.told.1
-
-    -- the second part of two
-    module _ (t t' : ValuePart V) (was : old.others ≡ t ∷ []) (is : new.others ≡ t' ∷ []) where
-      second_told : AllTold l.brought (t' ∷ [])
-      second_told = subst (AllTold l.brought) is l.told.2
-
-      pub second_more : IsPrefix t.brought t'.brought
-      second_more = subst (λ (x : List (Option V)). IsPrefix t.brought x) (sym second_told.0) (subst (AllKnow l.brought) was l.know.1).0.begins
-
-      pub second_many : length t'.brought ≡ length (accepted t'.part.seen)
-      second_many = ap length second_told.0 ∙ second_told.1
-
-      -- both were told the same
-      pub second_same : t'.brought ≡ new.first.brought
-      second_same = second_told.0 ∙ sym l.told.0

@@ -14,6 +14,9 @@ use wq_words::Layout;
 
 /// The seats of a new queue: the owner's, and each sender's at its number. All growths are made here. Its table has so many slots,
 /// with nothing in them: one for each number, or none where the items bring nothing.
+///
+/// # Errors
+/// Memory was refused.
 pub fn chairs<V: Drop>(
     alloc: Global,
     layout: Layout,

@@ -1,7 +1,7 @@
 use Rattle.wq_table.proofs.Common.{ℕ, None, sym, subst, part_at, GoesBy, standing_of, ValueSteps}
 use Rattle.wq_words.specs.declared.event.Why.TheVariants.{Draining}
 use Rattle.wq_core.specs.declared.step.Step.TheVariants as step
-use Rattle.wq_table.proofs.Steps.{placed, number_placed, linked, number_linked, number_pushed, saw_closed, saw_draining, saw_any}
+use Rattle.wq_table.proofs.Steps.{placed, number_placed, saw_draining}
 use Rattle.wq_table.proofs.Steps as steps
 use Rattle.wq_table.proofs.SlotTold.{deep_in, item_at_part, item_room_in, by_either}
 use Rattle.wq_table.proofs.ByKind as by

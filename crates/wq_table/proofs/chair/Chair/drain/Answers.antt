@@ -1,6 +1,5 @@
 use Rattle.wq_table.proofs.Common.{ℕ, None, sym, subst, Performs, part_at, standing_of}
 use Rattle.wq_core.specs.declared.step.Step.TheVariants as step
-use Rattle.wq_table.proofs.Steps.{placed, number_placed, linked, number_linked, number_pushed, saw_closed, saw_draining, saw_any}
 use Rattle.wq_table.proofs.Steps as steps
 use Rattle.wq_table.proofs.SlotTold.{by_either}
 use Rattle.wq_table.proofs.ByKind as by
