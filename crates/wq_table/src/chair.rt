@@ -1,5 +1,5 @@
 //! The seats of a queue, and their atomic steps.
-ghost use Rattle.std.specs.Prelude.{◌≡◌, ◌≢◌, ℕ, ◌+◌, ◌%◌, ◌^◌, ◌<◌, ◌==◌, List, [], ◌∷◌, Some, None, length, bit_or, bit_and};
+ghost use Rattle.std.specs.Prelude.{◌≡◌, ℕ, ◌+◌, ◌%◌, ◌^◌, ◌<◌, ◌==◌, [], ◌∷◌, Some, None, length, bit_or, bit_and};
 ghost use prog.Atomic.{either};
 ghost use Rattle.wq_words.specs.Numbers.{number_count};
 ghost use Rattle.wq_words.specs.Valued.{Carries};
@@ -300,7 +300,7 @@ impl<V> Chair<V> {
     pub fn begin<P: Place>(&mut self, number: u32)
         requires number { number < number_count (part_in P.at self.old).layout }
         requires next { IsToBegin number (part_in P.at self.old).stage }
-        requires rests { ¬ IsRunning (part_in P.at self.old).seen }
+        requires idle { ¬ IsRunning (part_in P.at self.old).seen }
         requires slot { 0 < self.old.queue.slots → HasValue number None self.old.hand }
         ensures step { (word : ℕ) × ValueSteps P.at None Begin word self.old self.new }
     {

@@ -36,8 +36,8 @@ begin-requires-clause-slot g c deep = let w = c.without_first-self in let e = w.
     ((emptied_batch c.args.self.now.row.front e.first.others c.args.self.now.chair w.new.chair c.requires.owns.number_is e.learns e.follows e.hand e.stage
     e.first.stage_is c.requires.slots).some deep).0
 
-pub begin-requires-clause-rests : goal.begin-requires-clause-rests
-begin-requires-clause-rests g c = let s = owning c.args.self.now in let o = c.requires.owns in let e = c.without_first-self.ensures in
+pub begin-requires-clause-idle : goal.begin-requires-clause-idle
+begin-requires-clause-idle g c = let s = owning c.args.self.now in let o = c.requires.owns in let e = c.without_first-self.ensures in
     let p = s.chair.part in let q = c.without_first-self.new.chair.first.part in
     rests_on p.seat p.seen q.seen o.number_is e.follows.grows (c.requires.idle)
 

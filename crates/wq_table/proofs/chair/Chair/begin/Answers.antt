@@ -1,6 +1,6 @@
 use Rattle.wq_table.proofs.Common.{ℕ, None, sym, subst, part_at, GoesBy, standing_of}
 use Rattle.wq_core.specs.declared.step.Step.TheVariants as step
-use Rattle.wq_table.proofs.Steps.{placed, number_placed, linked, number_linked, number_pushed, saw_closed, saw_draining, saw_any}
+use Rattle.wq_table.proofs.Steps.{placed, number_placed}
 use Rattle.wq_table.proofs.Steps as steps
 use Rattle.wq_table.proofs.SlotTold.{deep_in, item_at_part, item_room_in, by_either}
 use Rattle.wq_table.proofs.ByKind as by
@@ -15,7 +15,7 @@ pub and-requires-clause-performs : goal.and-requires-clause-performs
 and-requires-clause-performs g c = let s = c.self.inside in let it = c.args.self.now in let sits = c.self.invariant in
     let view = c.self.view_is in let at = g.P.Place.at in let p = part_at at (standing_of it) in let k = c.args.number in
     placed p (λ (n : ℕ). step.Begin) _ k _ _ (item_at_part s it sits view at _ k c.item_place-place.ensures.place)
-    (steps.performs_begin p.seat p.layout p.seen p.words k p.stage c.requires.number c.requires.next c.requires.rests)
+    (steps.performs_begin p.seat p.layout p.seen p.words k p.stage c.requires.number c.requires.next c.requires.idle)
 
 pub and-requires-clause-goes : goal.and-requires-clause-goes
 and-requires-clause-goes g c = let s = c.self.inside in let it = c.args.self.now in let sits = c.self.invariant in let view = c.self.view_is in
