@@ -23,9 +23,6 @@ grows_on c xs ys n m k u v w sum a b =
       theirs = omega (arith, ap length cut, length-append (others c a.new) (others c b.new));
     }
 
-pub grows_less : (c : ℕ) (xs : List Event) (n k : ℕ) (v w : List Event) → k ≤ n → Grows c xs n v w → Grows c xs k v w
-grows_less c xs n k v w less g = let t = g.theirs in record { new = g.new; is = g.is; mine = g.mine; theirs = omega arith }
-
 pub grows_own : (c : ℕ) (xs : List Event) (n : ℕ) (v w : List Event) → Grows c xs n v w → own c w ≡ own c v ++ xs
 grows_own c xs n v w g = ap (own c) g.is ∙ (own-append c v g.new ∙ ap (λ (x : List Event). own c v ++ x) g.mine)
 

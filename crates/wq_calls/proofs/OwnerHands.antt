@@ -10,10 +10,11 @@ use Rattle.std.proofs.lemmas.List.{length_push}
 use Rattle.wq_words.specs.declared.event.Event.TheVariants as event
 use Rattle.wq_core.specs.declared.step.Step.TheVariants.{Begin}
 use Rattle.wq_core.proofs.OwnerSteps.{first_of_batch}
+use Rattle.wq_table.specs.Plays.{tail_of}
 use Rattle.wq_table.specs.SlotSteps.{IsBrought, Walks, MovesSlot}
 use Rattle.wq_table.proofs.Changes.{changes}
 use Rattle.wq_table.proofs.Keeping.{waiting_once, batch_once}
-use Rattle.wq_calls.specs.Hands.{EachBrought, OwnsEmptied, batch_behind}
+use Rattle.wq_calls.specs.Hands.{EachBrought, OwnsEmptied}
 use Rattle.wq_calls.proofs.Owned.{begun_on}
 use Rattle.wq_calls.proofs.Tells.{TellsSo, Tells}
 use Rattle.wq_calls.proofs.OwnerTells.{walk_tells, begin_tells, owner_batch}
@@ -171,13 +172,9 @@ module _ {V : Type 0} where
   -- the same of the batch
   pub emptied_batch : (k : ℕ) (ks : List ℕ) (old new : ValueStanding V) → old.first.part.seat ≡ owner_seat → LearnsOrStays 0 old new
       → OnlySees old.first.part new.first.part → new.hand ≡ old.hand → new.first.part.stage ≡ old.first.part.stage
-      → new.first.part.stage ≡ Owns None [] (k ∷ ks) → OwnsEmptied old k (batch_behind (kept_batch old.first.part.stage)) → OwnsEmptied new k ks
+      → new.first.part.stage ≡ Owns None [] (k ∷ ks) → OwnsEmptied old k (tail_of (kept_batch old.first.part.stage)) → OwnsEmptied new k ks
   emptied_batch k ks old new mine learns follows hand stays stage slots = emptied_see old new ks mine k learns follows hand
-      (subst (OwnsEmptied old k) (ap (λ (st : Stage). batch_behind (kept_batch st)) (sym stays ∙ stage)) slots)
-
-  -- where there are no slots there is none to be emptied
-  pub bare_emptied : (it : ValueStanding V) (k : ℕ) (ns ms : List ℕ) → it.queue.slots ≡ 0 → OwnsSlots it ns → OwnsEmptied it k ms
-  bare_emptied it k ns ms bare slots = record { some = λ deep. absurd (omega (arith, deep, bare)); none = slots.none }
+      (subst (OwnsEmptied old k) (ap (λ (st : Stage). tail_of (kept_batch st)) (sym stays ∙ stage)) slots)
 
   pub bare_slots : (old new : ValueStanding V) (ns ms : List ℕ) → new.queue ≡ old.queue → old.queue.slots ≡ 0 → new.hand ≡ old.hand → OwnsSlots old ns
       → OwnsSlots new ms

@@ -40,14 +40,6 @@ module _ (h : List Event) where
   pub closed_unmarked : ¬ (phase h ≡ Closed) → false ≡ closed h
   closed_unmarked other = sym (closed_from_open h (λ is. other (phase_closed is)))
 
-  pub draining_from_phase : phase h ≡ Draining → IsDraining h
-  draining_from_phase is = go (closed h) (shut h) refl refl
-    where
-      go : (c s : Bool) → closed h ≡ c → shut h ≡ s → IsDraining h
-      go true s e f = absurd (cc (is, phase_at true s e f))
-      go false true e f = (IsShut_from_shut h f, open_from_closed h e)
-      go false false e f = absurd (cc (is, phase_at false false e f))
-
 -- as far as the owner's events say
 closed_alike : (v w : List Event) → own owner_seat w ≡ own owner_seat v → closed w ≡ closed v
 closed_alike v w is = ap (nat_lt 0) (closed_count v w is)

@@ -105,11 +105,6 @@ pub record TurnsHands {V : Type 0} (count : ℕ) (old new : ValueStanding V) : T
   pub others_are : new.others ≡ old.others
   pub hand_is : new.hand ≡ turns count old.hand
 
--- the batch without its first number
-abbrev pub batch_behind : List ℕ → List ℕ
-batch_behind [] = []
-batch_behind (k ∷ ks) = ks
-
 -- an owner's seat, with the slots of its batch
 pub record OwnsSeat {V : Type 0} (s : OwnerSeat V) : Type 0 where
   pub queue : OwnsQueue (owning s)

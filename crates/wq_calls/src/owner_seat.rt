@@ -1,5 +1,5 @@
 //! The owner's part of a chair, which is the first, and what the owner keeps beside it: its calls, with or without values.
-ghost use Rattle.std.specs.Prelude.{◌≡◌, ◌≢◌, ℕ, ◌+◌, ◌<◌, ◌≤◌, ◌↔◌, false, [], ◌∷◌, ◌++◌, Some, None, IsSome, IfSome, IsTrue, length, slice_get};
+ghost use Rattle.std.specs.Prelude.{◌≡◌, ◌≢◌, ℕ, ◌+◌, ◌<◌, ◌≤◌, ◌↔◌, false, [], ◌∷◌, ◌++◌, Some, IsSome, IfSome, IsTrue, length, slice_get};
 ghost use mathlib.Core.List.{IsPrefix};
 ghost use Rattle.wq_words.specs.declared.event.Event.TheVariants.{Take, Close, Drain, Resume, Begin, End};
 ghost use Rattle.wq_words.specs.Numbers.{number_count};
@@ -9,6 +9,7 @@ ghost use Rattle.wq_words.specs.Counting.{capped};
 ghost use Rattle.wq_words.specs.Valued.{Carries};
 ghost use Rattle.wq_core.specs.Words.{head_at, item_of};
 ghost use Rattle.atomic_table.specs.Seated.{TableId};
+ghost use Rattle.wq_table.specs.Plays.{tail_of};
 ghost use Rattle.wq_table.specs.SlotChairs.{value_owner};
 ghost use Rattle.wq_table.specs.Beside.{Learns, LearnsOrStays};
 ghost use Rattle.wq_words.specs.Seen.{own, owner_seat};
@@ -21,7 +22,7 @@ ghost use Rattle.wq_calls.specs.Row.{IsRowOf};
 ghost use Rattle.wq_calls.specs.Sits.{owning, owner_view, OwnsQueue, Stands, OnlySees, HasRow, HasBoth, HasFirst, kept_batch, walking};
 ghost use Rattle.wq_calls.specs.KnownWith.{answer_of, ChainsOrReturns};
 ghost use Rattle.wq_calls.specs.Valued.{owner_with};
-ghost use Rattle.wq_calls.specs.Hands.{OwnsSlots, OwnsEmptied, OwnsSeat, TurnedSlots, TurnsHands, batch_behind};
+ghost use Rattle.wq_calls.specs.Hands.{OwnsSlots, OwnsEmptied, OwnsSeat, TurnedSlots, TurnsHands};
 
 use crate::answer::Done;
 use crate::counts::OwnerCounts;
@@ -360,7 +361,7 @@ impl<V: Drop> OwnerSeat<V> {
     /// Begins the execution of `next`, whose slot is empty.
     pub fn begin(&mut self) -> u32
         requires owns { OwnsQueue (owning self.old) }
-        requires slots { OwnsEmptied self.old.chair self.old.row.front (batch_behind (kept_batch self.old.chair.first.part.stage)) }
+        requires slots { OwnsEmptied self.old.chair self.old.row.front (tail_of (kept_batch self.old.chair.first.part.stage)) }
         requires waits { batch (owner_view (owning self.old)).seen ≢ [] }
         requires idle { ¬ IsRunning (owner_view (owning self.old)).seen }
         ensures owns { OwnsSeat self.new }

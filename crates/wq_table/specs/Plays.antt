@@ -34,6 +34,7 @@ word_found m c (Chain k) = item_word m k
 word_found m c (Turn k next) = word_at next
 word_found m c Rest = head m
 
+-- a batch without its first number
 abbrev pub tail_of : List ℕ → List ℕ
 tail_of [] = []
 tail_of (k ∷ ks) = ks

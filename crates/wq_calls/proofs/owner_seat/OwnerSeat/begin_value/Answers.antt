@@ -1,7 +1,8 @@
 use Rattle.wq_calls.proofs.Common.{◌≡◌, ◌≢◌, ℕ, [], ◌∷◌, ◌++◌, Some, sym, ap, ◌∙◌, subst, IsPrefix, Begin, accepted, begun, ended, own, owner_seat}
 use Rattle.wq_calls.proofs.Common.{IsRunning, IsClosed, IsShut, Carries, Stage, Standing, ValuePart, learns_more, Known, Sees, batch, next_of, OwnerSeat}
 use Rattle.wq_calls.proofs.Common.{Owning as Inside, owning, owner_view, OwnsQueue, kept_batch, OwnsSlots}
-use Rattle.wq_calls.specs.Hands.{OwnsEmptied, batch_behind}
+use Rattle.wq_table.specs.Plays.{tail_of}
+use Rattle.wq_calls.specs.Hands.{OwnsEmptied}
 use Rattle.wq_calls.proofs.Valuing.{exchanged_standing, exchanged_learns}
 use Rattle.wq_calls.proofs.ValueHands.{front_waits, front_begins, front_slot, emptied_slot, emptied_value, emptied_kind}
 use Rattle.wq_calls.proofs.owner_seat.OwnerSeat.begin_value.Goals as goal
@@ -22,8 +23,8 @@ begin-requires g c = let s = c.args.self.now in let o = c.requires.owns in let f
     let mid = c.exchange-value.new.self in let x = c.exchange-value.ensures.exchanged in
     let same = ap (seated_on s) (sym (exchanged_standing _ _ _ s.chair mid x)) in record {
       owns = subst OwnsQueue same o.queue;
-      slots = subst (OwnsEmptied mid s.row.front) (sym (ap (λ (t : ValuePart g.row.V.Denot). batch_behind (kept_batch t.part.stage)) x.first_is
-          ∙ ap (λ (st : Stage). batch_behind (kept_batch st)) front.1))
+      slots = subst (OwnsEmptied mid s.row.front) (sym (ap (λ (t : ValuePart g.row.V.Denot). tail_of (kept_batch t.part.stage)) x.first_is
+          ∙ ap (λ (st : Stage). tail_of (kept_batch st)) front.1))
           (emptied_slot s.row.front front.0 c.exchange-value.result s.chair mid c.requires.slots front.1
           (subst (OwnsSlots s.chair) (ap kept_batch front.1) o.slots) x);
       waits = subst (λ (z : Inside). batch (owner_view z).seen ≢ []) same c.requires.waits;
