@@ -40,6 +40,9 @@ fn seat_value_senders<V: Drop>(
 
 /// The owner and the senders of a new queue whose items bring values of this type. They have seen nothing. All memory that the
 /// queue needs is taken here, that of a value for each of its numbers too.
+///
+/// # Errors
+/// `Memory` where memory was refused.
 pub fn build_values<V: Drop>(
     alloc: Global,
     layout: Layout,
