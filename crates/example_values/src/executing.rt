@@ -14,7 +14,7 @@ use std::sync::Wait;
 use trail::Trail;
 use wq_values::ValueOwner;
 
-/// The owner, what the messages that it was handed came to, and their list, which contracts alone see.
+/// The owner, the sum of each item times the message that came with it, and the list of the messages, which contracts alone see.
 #[derive(Drop)]
 pub struct Ran {
     pub owner: ValueOwner<Message>,
@@ -22,18 +22,20 @@ pub struct Ran {
     pub ran: Trail,
 }
 
-/// What an execution does with the message that it is handed: here a user's own work would stand.
-fn add_up(it: &mut Ran, message: Option<Message>)
+/// What an execution does with the message that it is handed: here a user's own work would stand. The item weighs its message, so
+/// that the sum tells which came with which.
+fn add_up(it: &mut Ran, item: u32, message: Option<Message>)
     ensures owner { it.new.owner ≡ it.old.owner }
     ensures ran { it.new.ran.items ≡ it.old.ran.items ++ numbers_of (message ∷ []) }
 {
     if let Some(message) = message {
-        it.sum = it.sum.saturating_add(u64::from(*message));
+        let weighed = u64::from(item).saturating_mul(u64::from(*message));
+        it.sum = it.sum.saturating_add(weighed);
         it.ran = it.ran.and(*message);
     }
 }
 
-/// The next execution, which adds up its message. Which number it was.
+/// The next execution, which adds up its message, weighed by its item. Which number it was.
 fn execute_one(it: &mut Ran) -> u32
     requires waits { batch it.old.owner.known.seen ≢ [] }
     requires idle { ¬ IsRunning it.old.owner.known.seen }
@@ -47,7 +49,7 @@ fn execute_one(it: &mut Ran) -> u32
     ensures closed { IsClosed it.old.owner.known.seen → IsClosed it.new.owner.known.seen }
 {
     let (number, message) = it.owner.begin();
-    add_up(it, message);
+    add_up(it, number, message);
     it.owner.end();
     number
 }

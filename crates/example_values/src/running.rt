@@ -1,5 +1,5 @@
 //! Two senders in threads of their own, and beside them the owner in its own.
-ghost use Rattle.std.specs.Prelude.{◌≡◌, ◌*◌, ◌<◌, ◌≤◌, [], IfOk};
+ghost use Rattle.std.specs.Prelude.{◌≡◌, ◌*◌, ◌≤◌, [], IfOk};
 ghost use Rattle.wq_values.specs.History.{accepted, begun, ended};
 ghost use Rattle.wq_values.specs.Legal.{IsComplete};
 ghost use Rattle.wq_values.specs.Numbers.{stop_number};

@@ -50,7 +50,8 @@ fn check_served<R: Abort + Threads + Wait + Sync>(rt: &R, alloc: Global) {
     );
 }
 
-/// A run ends with all messages handed over: 1,000 to 1,099 of the first sender, and 2,100 to 2,199 of the second.
+/// A run ends with all messages handed over: 1,000 to 1,099 of the first sender, with its items 0 to 99, and 2,100 to 2,199 of the
+/// second, with 100 to 199. Each item times its message adds up to the sum, which tells them apart.
 fn check_messages<R: Abort + Threads + Wait + Sync>(rt: &R, alloc: Global) {
     let layout = Layout::new(200, 1, 3).expect(rt, "a layout");
     let met = hand_over(rt, alloc, layout, EACH).expect(rt, "memory");
@@ -60,7 +61,7 @@ fn check_messages<R: Abort + Threads + Wait + Sync>(rt: &R, alloc: Global) {
     );
     expect_same(rt, queued, (100, 100));
     expect_same(rt, met.ran.owner.done(), Some(Done { ended: 201 }));
-    expect_same(rt, met.ran.sum, 319_900);
+    expect_same(rt, met.ran.sum, 37_496_700);
 }
 
 fn check_often<R: Abort + Threads + Wait + Sync>(
