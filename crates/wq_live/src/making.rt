@@ -1,5 +1,5 @@
 //! How a queue is made.
-ghost use Rattle.std.specs.Prelude.{◌≡◌, ℕ, ◌<◌, [], All, length, IfOk};
+ghost use Rattle.std.specs.Prelude.{◌≡◌, ℕ, [], All, length, IfOk};
 ghost use Rattle.atomic_table.specs.Seated.{TableId};
 ghost use Rattle.wq_words.specs.History.{Holds};
 ghost use Rattle.wq_table.specs.SlotChairs.{value_senders};
@@ -40,6 +40,9 @@ fn seat_senders(
 
 /// The owner and the senders of a new queue, each sender at its number. They have seen nothing. All memory that the queue needs
 /// is taken here.
+///
+/// # Errors
+/// `Memory` where memory was refused.
 pub fn build(alloc: Global, layout: Layout) -> Result<(Owner, Vec<Sender>), BuildError>
     ensures made { IfOk result (λ r. (r.0 ≡ new_owner r.0.queue layout) × (r.1.items ≡ new_senders r.0.queue layout layout.senders)) }
     ensures one { IfOk result (λ r. All (λ s. s.queue ≡ r.0.queue) r.1.items) }

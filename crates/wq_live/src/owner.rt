@@ -1,5 +1,5 @@
 //! The owner of a queue.
-ghost use Rattle.std.specs.Prelude.{◌≡◌, ◌≢◌, ℕ, ◌+◌, ◌<◌, ◌≤◌, ◌↔◌, false, [], ◌∷◌, ◌++◌, Some, None, IsSome, IsTrue, IfSome, length};
+ghost use Rattle.std.specs.Prelude.{◌≡◌, ◌≢◌, ℕ, ◌+◌, ◌<◌, ◌≤◌, ◌↔◌, false, [], ◌∷◌, ◌++◌, Some, IsSome, IsTrue, IfSome, length};
 ghost use mathlib.Core.List.{IsPrefix};
 ghost use Rattle.wq_words.specs.declared.event.Event.TheVariants.{Take, Close, Drain, Resume, Begin, End};
 ghost use Rattle.wq_words.specs.Numbers.{number_count};
@@ -186,7 +186,8 @@ impl Owner {
     }
 
     /// Says once that the queue rests: true where all that was accepted has ended, the owner has taken or drained since it rested
-    /// last, and nothing was pushed since that take or drain. The next push then answers `wakes`.
+    /// last, and nothing was pushed since that take or drain. The next push then answers `wakes`, if no take or drain comes
+    /// before it.
     ///
     /// An owner that serves by a loop of its own takes, executes what it took, rests, parks its thread where that answered
     /// true, and begins again with a take. Its senders unpark it on `wakes` alone: once a rest, and not once an item. No

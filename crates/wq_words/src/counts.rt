@@ -2,7 +2,7 @@
 ghost use Rattle.std.specs.List.{after_last};
 ghost use Rattle.std.specs.Prelude.{◌≡◌, ◌↔◌, IsTrue, length, slice_get, count_by};
 ghost use Rattle.wq_words.specs.Milestone.{reached_by, reached};
-ghost use Rattle.wq_words.specs.History.{sets_pending, clears_pending, starts_hold, stops_hold, is_close, is_drain, is_resume, next};
+ghost use Rattle.wq_words.specs.History.{is_drain, is_resume, next};
 ghost use Rattle.wq_words.specs.History.{running, IsRunning, IsPending, Holds, IsClosed, IsShut, HasDrained};
 
 use crate::event::Event;

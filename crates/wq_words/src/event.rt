@@ -49,7 +49,7 @@ pub enum Event {
     /// While the queue takes no push, the running execution found the PENDING bit set.
     ChainBusy(u32),
     /// The owner, with all that was accepted executed, found the list empty and left it marked as resting: the next push
-    /// wakes it.
+    /// wakes it, if no take or drain comes before it.
     Rest,
 }
 

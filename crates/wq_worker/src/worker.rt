@@ -238,8 +238,8 @@ impl<W: Work> Worker<W> {
     }
 
     /// Says once that the queue rests: true where all that was accepted has ended, nothing was pushed since the last take, drain or
-    /// resume, and the queue did not rest already. The next queueing then answers `wakes`. Where it answers false, run on:
-    /// something was pushed, or nothing was taken since the last rest.
+    /// resume, and the queue did not rest already. The next queueing then answers `wakes`, if no take or drain comes before it.
+    /// Where it answers false, run on: something was pushed, or nothing was taken since the last rest.
     ///
     /// A loop of one's own runs until `run_one` answers `Nothing`, rests, and parks where that answered true; its senders
     /// unpark it where their answer says `wakes`, once a rest and not once an item. No wake-up is missed then (this is not proved): a
