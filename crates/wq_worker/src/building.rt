@@ -17,6 +17,6 @@ impl<W> fmt::Debug for Unbuilt<W> {
     fn fmt<O: fmt::Write>(&self, f: &mut fmt::Formatter<O>) -> fmt::Result {
         f.debug_struct("Unbuilt")
             .field("error", &self.error)
-            .finish()
+            .finish_non_exhaustive()
     }
 }

@@ -30,7 +30,7 @@ impl<K> fmt::Debug for Unfinished<K> {
     fn fmt<O: fmt::Write>(&self, f: &mut fmt::Formatter<O>) -> fmt::Result {
         f.debug_struct("Unfinished")
             .field("left", &self.left)
-            .finish()
+            .finish_non_exhaustive()
     }
 }
 
