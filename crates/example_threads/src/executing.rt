@@ -73,7 +73,7 @@ fn serve<R: Wait>(rt: &R, owner: &mut Owner, parker: &Parker)
 }
 
 /// Serves a new queue until the stop item ran, closes it, and executes what is left.
-pub fn execute_all<R: Wait>(rt: &R, mut owner: Owner, parker: &Parker) -> Owner
+pub(crate) fn execute_all<R: Wait>(rt: &R, mut owner: Owner, parker: &Parker) -> Owner
     requires new { owner.seen ≡ [] }
     ensures same { IsSame owner result }
     ensures complete { IsComplete result.seen }

@@ -9,7 +9,6 @@ mod running;
 mod served;
 mod waking;
 
-pub use executing::execute_all;
 pub use one_worker::{Runs, queue_and_destroy};
 pub use queueing::Told;
 pub use running::{Met, run};

@@ -29,6 +29,9 @@ impl Work for Runs {
 
 /// One sender queues two items, the worker is destroyed, and the sender meets its book. None where that took more than nine
 /// executions. The work has then run just the items that were accepted, in order, and the queue has run to its end.
+///
+/// # Errors
+/// Memory for the queue was refused.
 pub fn queue_and_destroy(
     alloc: Global,
     layout: Layout,

@@ -1,5 +1,5 @@
 //! Three senders in threads of their own, and beside them the owner in its own.
-ghost use Rattle.std.specs.Prelude.{◌≡◌, ◌*◌, ◌<◌, ◌≤◌, [], IfOk};
+ghost use Rattle.std.specs.Prelude.{◌≡◌, ◌*◌, ◌≤◌, [], IfOk};
 ghost use Rattle.wq_live.specs.History.{accepted, begun, ended};
 ghost use Rattle.wq_live.specs.Legal.{IsComplete};
 ghost use Rattle.wq_live.specs.Seen.{own};

@@ -1,5 +1,5 @@
 //! A worker that serves in a thread of its own, and beside it two senders in theirs.
-ghost use Rattle.std.specs.Prelude.{◌≡◌, ◌+◌, ◌*◌, ◌<◌, ◌≤◌, [], IfOk};
+ghost use Rattle.std.specs.Prelude.{◌≡◌, ◌+◌, ◌*◌, ◌≤◌, [], IfOk};
 ghost use Rattle.wq_worker.specs.History.{accepted, ended, IsRunning, IsShut};
 ghost use Rattle.wq_worker.specs.Legal.{IsLegal, IsComplete};
 ghost use Rattle.wq_worker.specs.Headline.{KeepsHeadline};
@@ -189,6 +189,9 @@ fn serve_beside<R: Threads + Wait + Sync>(
 
 /// The same on a new queue, with so many items of each sender. Where it is Ok all that was accepted ran, in its order and once:
 /// of each sender what it was answered `Queued` for, in its order, and nothing else. Nothing is left, and the book balances.
+///
+/// # Errors
+/// `Memory` where memory was refused, `Left` where the destroy came to its limit, and `Unbalanced` where a count is saturated.
 pub fn run_served<R: Threads + Wait + Sync>(
     rt: &R,
     alloc: Global,
