@@ -37,7 +37,7 @@ pub enum PoolError {
 }
 
 /// Queues, each by its place, and the ready queue of those that were announced. Threads share it by `&`. No call takes a lock,
-/// and none but `new`, `run` and `finish` takes memory.
+/// and none but `new` and `finish` takes memory.
 #[derive(Drop)]
 pub struct PoolOf<K: Station> {
     pub(crate) slots: Slots<K>,

@@ -84,8 +84,9 @@ impl<K: Station + Drop + Send> PoolOf<K> {
         unreachable!()
     }
 
-    // Announces a queue again, behind all that wait. Where there is no room, the first that waits makes it, unless one did before:
-    // that one is to be looked at next. Once every queue has run its stop item there is room in any case.
+    // Announces a queue again, behind all that wait. Where there is no room, the first that waits makes it, and is to be looked at
+    // next. Where others took that room too, no second one is taken off: there is room once each queue waits once, and so there is
+    // where every queue has run its stop item.
     fn announce_again<R: Wait>(
         &self,
         rt: &R,
@@ -102,12 +103,9 @@ impl<K: Station + Drop + Send> PoolOf<K> {
         if self.announce(rt, caller, queue).is_ok() {
             return true;
         }
-        if self.has_stopped() {
+        if next.is_some() || self.has_stopped() {
             self.announce_last(rt, caller, queue);
             return true;
-        }
-        if next.is_some() {
-            return false;
         }
         *next = self.pick_number(rt, caller);
         self.announce(rt, caller, queue).is_ok()
@@ -151,7 +149,7 @@ impl<K: Station + Drop + Send> PoolOf<K> {
         unreachable!()
     }
 
-    // The turn at a queue that is in hand already, or at the one that was announced first.
+    // The turn at the queue that made room, or at the one that was announced first.
     fn next_turn<R: Wait>(
         &self,
         rt: &R,
@@ -170,8 +168,8 @@ impl<K: Station + Drop + Send> PoolOf<K> {
         }
     }
 
-    // Works at the queue that is in hand already, or at the one that was announced first, and gives its processor way where there is
-    // neither. Answers the queue that made room, if one had to.
+    // Works at the queue that made room, or at the one that was announced first, and gives its processor way where there is neither.
+    // Answers the queue that made room for that one, if one had to.
     fn serve_next<R: Wait, G: Gate>(
         &self,
         rt: &R,
@@ -211,8 +209,8 @@ impl<K: Station + Drop + Send> PoolOf<K> {
         }
     }
 
-    /// Serves what is announced, in one thread for each caller, until every queue has run its stop item since its worker was handed
-    /// over. Where no thread can be made the callers serve in turn. Each caller comes back with what it has seen. A caller that
+    /// Serves what is announced, in one thread for each caller, until every queue has run its stop item since the pool was
+    /// made. Where no thread can be made the callers serve in turn. Each caller comes back with what it has seen. A caller that
     /// finds nothing announced gives its processor way and looks again; it does not park. With no caller it ends at once, and so it
     /// does where each stop item has run before: what is queued after that is to be worked on by `pick`.
     ///

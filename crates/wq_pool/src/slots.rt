@@ -89,6 +89,7 @@ impl<K: Station> Model for Slots<K> {
     ghost invariant = { AreSlots K.state };
 }
 
+// Each queue in a slot of its own. What ran before it was handed over is not counted.
 fn filled<K: Station + Drop>(
     alloc: Global,
     queues: Vec<ServedOf<K>>,
@@ -97,7 +98,7 @@ fn filled<K: Station + Drop>(
 {
     let mut slots = Vec::with_capacity(alloc, queues.len())?;
     for queue in queues {
-        slots.push_reserved(Some(queue));
+        slots.push_reserved(Some(queue.anew()));
     }
     Ok(slots)
 }

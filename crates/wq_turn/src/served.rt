@@ -43,6 +43,15 @@ impl<K: Station> ServedOf<K> {
         }
     }
 
+    /// The worker as one that is handed over now: a stop item that it ran before is not counted.
+    pub fn anew(self) -> ServedOf<K>
+        ensures same { result ≡ self }
+    {
+        ServedOf {
+            worker: Noted::of(self.worker.into_worker()),
+        }
+    }
+
     /// What the worker has seen is a legal history, so the queue keeps the headline: what was accepted is executed in its
     /// order, once at most, and one at a time. The work has run the items that have begun, in this order, nothing runs, and the
     /// queue does not drain.

@@ -1,6 +1,6 @@
 use Rattle.std.proofs.lemmas.Iterator.Adapters.{YieldsList-from_vec}
 use Rattle.std.proofs.lemmas.Iterator.Consumers.{YieldsList-turn, YieldsList-end}
-use Rattle.wq_pool.proofs.Common.{List, [], ◌∷◌, map, Some, sym, ap, ◌∙◌, arith, length-append, map-id}
+use Rattle.wq_pool.proofs.Common.{◌≡◌, List, [], ◌∷◌, ◌++◌, map, Some, sym, ap, ◌∙◌, subst, arith, length-append, map-id}
 use Rattle.wq_pool.proofs.Hands.{filled_next}
 use Rattle.wq_pool.proofs.slots.filled.Goals as goal
 
@@ -16,7 +16,8 @@ loop-queue-preserved g c =
     let l = c.loop-queue in let i = l.invariant in let queue = c.in-Some.queue in (
       tt,
       tt,
-      filled_next l.yielded queue l.slots.items c.push_reserved.new.self.items i.2 c.push_reserved.ensures.items,
+      filled_next l.yielded queue l.slots.items c.push_reserved.new.self.items i.2
+          (subst (λ (q : _). c.push_reserved.new.self.items ≡ l.slots.items ++ Some q ∷ []) c.anew.ensures.same c.push_reserved.ensures.items),
       omega (arith, c.push_reserved.ensures.len, i.3, length-append l.yielded (queue ∷ [])),
       omega (arith, c.push_reserved.ensures.capacity, i.4),
     )

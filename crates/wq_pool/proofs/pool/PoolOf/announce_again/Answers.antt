@@ -10,22 +10,13 @@ returns-then-is_ok g c =
       goes_on = goes_by_announce c.args.queue c.announce.result c.args.caller.now c.announce.new.caller e.seen;
     }
 
-pub returns-then-has_stopped : goal.returns-then-has_stopped
-returns-then-has_stopped g c =
+pub returns-then-is_some : goal.returns-then-is_some
+returns-then-is_some g c =
     let a = c.args.caller.now in let b = c.announce.new.caller in let e = c.announce_last.ensures in
     record {
       caller = e.caller;
       next = c.requires.next;
       goes_on = goes_on a b c.announce_last.new.caller (goes_by_announce c.args.queue c.announce.result a b c.announce.ensures.seen) e.goes_on;
-    }
-
-pub returns-then-is_some : goal.returns-then-is_some
-returns-then-is_some g c =
-    let e = c.announce.ensures in
-    record {
-      caller = e.caller;
-      next = c.requires.next;
-      goes_on = goes_by_announce c.args.queue c.announce.result c.args.caller.now c.announce.new.caller e.seen;
     }
 
 pub returns : goal.returns
