@@ -26,6 +26,8 @@ RUNS |= {"check": RIGHT_TRACE, "check --drained": WRONG_TRACE}
 PLANS = {"a lone plan": LONE_PLAN, "a plan over a pool": POOL_PLAN}
 # Which of its threads a plan wants for sure. A pool's further workers want none of their own, and are made while others still are.
 WANTED_THREADS = {"a lone plan": range(1, 5000), "a plan over a pool": [1]}
+# How many threads a plan makes: one for each sender, one for the workers, and one for each worker of a pool but the first.
+THREADS = {"a lone plan": 3, "a plan over a pool": 4}
 
 MEMORY, UNREADABLE, UNWRITABLE = (3, b"memory\n"), (1, b"file: Unreadable\n"), (1, b"output: Unwritable\n")
 # what may come of a fault beside the right output, and whether it has to; of a thread that depends on which
@@ -99,6 +101,8 @@ def faults_of(runner, name, words, text):
             if not has_come:
                 found += [f"{name}, no {fault}: {got} and not {right}"] if got != right else []
                 found += [f"{name}: no {fault} ever comes"] if place == 1 else []
+                if fault == "thread fails" and place - 1 != THREADS[name]:
+                    found += [f"{name}: it makes {place - 1} threads and not {THREADS[name]}"]
                 break
             must_come = place in WANTED_THREADS[name] if fault == "thread fails" else FAULTS[fault][1]
             is_well = is_as_wanted(got, right, fault, must_come)

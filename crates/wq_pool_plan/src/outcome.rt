@@ -81,7 +81,7 @@ fn balance_with(
     requires program { program.old.queue ≡ book.old.queue }
     ensures { IfOk result (AnswersBalance book.old senders.items program.old) }
 {
-    let mut ledgers = Vec::with_capacity(alloc, senders.len())?;
+    let mut ledgers = Vec::with_capacity(alloc, senders.len() + 1)?;
     enter_all(book, &mut ledgers, senders)?;
     enter(book, &mut ledgers, program)?;
     book.legal();

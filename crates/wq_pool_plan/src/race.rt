@@ -59,6 +59,7 @@ fn make_pool(
     requires { length served.items ≡ plan.queues }
     ensures workers { IfOk result (λ made. made.0.workers ≡ map worker_id served.items) }
     ensures callers { IfOk result (λ made. AreCallersOf made.0.ready plan.senders made.1) }
+    ensures threads { IfOk result (λ made. length made.1.workers.items ≡ plan.workers) }
 {
     let (pool, mut callers) = match Pool::new(alloc, served, plan.workers + plan.senders + 1) {
         Ok(made) => made,

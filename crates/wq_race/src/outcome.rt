@@ -30,6 +30,9 @@ pub struct Outcome {
 }
 
 /// The book meets a sender, whose ledger comes behind the others.
+///
+/// # Errors
+/// Memory for the ledger's place was refused: the book and the sender have met, and the ledgers are as they were.
 pub fn enter(
     book: &mut Book,
     ledgers: &mut Vec<Ledger>,
@@ -51,6 +54,9 @@ pub fn enter(
 }
 
 /// A ledger for each of these senders.
+///
+/// # Errors
+/// Memory for a ledger's place was refused: the book has met the senders up to that one's.
 pub fn enter_all(
     book: &mut Book,
     ledgers: &mut Vec<Ledger>,
@@ -164,6 +170,9 @@ fn yes_or_no(is: bool) -> &'static str
 
 impl Outcome {
     /// One line: `accepted A ran R balanced yes`, or `balanced no`.
+    ///
+    /// # Errors
+    /// Memory for the line was refused.
     #[tactic(auto, unfolding(crate::specs::Outcome::outcome_line))]
     pub fn write(self, out: &mut String) -> Result<(), AllocError>
         ensures line { OnOk result (string_bytes out.new ≡ string_bytes out.old ++ outcome_line self) }

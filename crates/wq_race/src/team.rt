@@ -35,6 +35,9 @@ fn take_last(senders: &mut Vec<Sender>) -> Sender
 
 impl Team {
     /// The seats of a new queue: the plan's senders by number, then the worker's and the program's.
+    ///
+    /// # Errors
+    /// Memory for the queue was refused.
     pub fn new(alloc: Global, plan: Plan) -> Result<Team, BuildError>
         ensures made { IfOk result (IsNewTeam plan) }
     {
