@@ -2,8 +2,8 @@
 # Refuses each allocation of each call that takes memory, one at a time, and compares what came of it with refused_memory.report:
 # refused_memory.sh PROGRAM [--all], with test_memory as PROGRAM. A case of it makes one call in such a way that its Nth allocation is
 # the program's hundredth, which checks/c/faults.c refuses, and tells whether that one was refused in the call. For each call there are
-# the cases up to the one behind its last allocation. With --all the report is made anew, from 57 cases for each call. It wants a C
-# compiler.
+# the cases up to the one behind its last allocation. Then each of the three threads that the logs want is refused in turn. With --all
+# the report is made anew, from 97 cases for each call. It wants a C compiler.
 set -euo pipefail
 program=$(realpath "${1:?usage: checks/refused_memory.sh PROGRAM [--all]}")
 all=${2:-}
@@ -24,12 +24,13 @@ refuse() {
         timeout 60 "$program" <<<"$1 $2" 2>&1 || echo "$1 $2 ended with status $?"
 }
 while read -r call _ count _; do
-    if [ "$all" = --all ]; then count=56; fi
+    if [ "$all" = --all ]; then count=96; fi
     for place in $(seq 1 $((count + 1))); do refuse "$call" "$place"; done
 done <"$report" >"$folder/said"
 
 # For each call how many of its allocations were refused, and what it then answered: `again` is want of memory and then the right
-# answer, by what was left or came back; `right` that a row which was refused more room than it wants went on.
+# answer, by what was left or came back; `right` that a row which was refused more room than it wants went on. What the threads of `log`
+# take comes in another order in each run, so of that call it is told that none was wrong.
 awk -F': |, ' '
     / refused (in|before|after) it$/ {
         split($1, name, " ")
@@ -44,11 +45,27 @@ awk -F': |, ' '
         for (call in said) {
             if (!after[call]) print call, "has more allocations than were refused"
             line = call " refused " refused[call] + 0
+            if (call == "log") {
+                fine = of[call ": memory"] + of[call ": thread"] + of[call ": right"]
+                print line " memory, thread or right " fine + 0 " wrong " of[call ": wrong"] + 0
+                continue
+            }
             line = line " memory " of[call ": memory"] + 0 " again " of[call ": memory and again"] + 0
             print line " right " of[call ": right"] + 0 " wrong " of[call ": wrong"] + 0
         }
     }' "$folder/said" | sort >"$folder/report"
 cat "$folder/report"
+# Each call without a line on standard input. The logs' workers want the first thread that is made, and without it nothing is written;
+# a further worker and a client do without one of their own.
+for place in 1 2 3; do
+    expected=$(sed "$([ "$place" = 1 ] && echo 's/^log: right/log: thread/')" ../crates/test_memory/stdout)
+    said=$(LD_PRELOAD=$folder/faults.so FAULT="thread fails" FAULT_AT=$place FAULT_TOLD=$folder/thread$place \
+        timeout 60 "$program" </dev/null 2>&1) || said="$said (ended with status $?)"
+    if ! [ -e "$folder/thread$place" ] || ! diff <(echo "$expected") <(echo "$said"); then
+        echo "thread $place is refused, and what comes of it is not as expected (<)" >&2
+        exit 1
+    fi
+done
 if [ "$all" = --all ]; then cp "$folder/report" "$report"; exit; fi
 diff "$report" "$folder/report"
 echo "as stored in checks/refused_memory.report"

@@ -1,5 +1,6 @@
 //! The calls, and whether each gives its right answer or says that memory is wanting.
 use crate::checkers::{check_events, check_marks};
+use crate::log::write_logs;
 use crate::pool::serve_pool;
 use crate::streams::Page;
 use crate::value_worker::build_value_worker;
@@ -32,6 +33,7 @@ pub enum Call {
     Worker,
     ValueWorker,
     Pool,
+    Log,
     Events,
     Marks,
     Script(&'static str, &'static str),
@@ -56,6 +58,8 @@ pub enum Said {
     Memory,
     /// Want of memory, and what was given back was used again.
     Again,
+    /// Want of a thread.
+    Thread,
     Wrong,
 }
 
@@ -65,6 +69,7 @@ impl fmt::Display for Said {
             Said::Right => "right",
             Said::Memory => "memory",
             Said::Again => "memory and again",
+            Said::Thread => "thread",
             Said::Wrong => "wrong",
         })
     }
@@ -78,6 +83,7 @@ pub const CALLS: &[(&str, Call)] = &[
     ("worker", Call::Worker),
     ("value_worker", Call::ValueWorker),
     ("pool", Call::Pool),
+    ("log", Call::Log),
     ("events", Call::Events),
     ("marks", Call::Marks),
     (
@@ -358,7 +364,7 @@ fn run_main<T: Threads + Wait + Sync>(
 }
 
 /// Judges a recording, which is legal, or whose line of this number has more words than any may. Want of memory for a line's bytes is
-/// an error of the reader, and of the text for its words, the checker or the finding.
+/// an error of the reader, and of the text for anything else.
 fn judge(alloc: Global, text: &str, faulty: Option<u64>) -> Said {
     let mut reader = text.as_bytes();
     match check(alloc, &mut reader) {
@@ -380,6 +386,7 @@ pub fn make<T: Threads + Wait + Sync>(rt: &T, alloc: Global, call: Call) -> Said
         Call::Worker => build_worker(alloc),
         Call::ValueWorker => build_value_worker(alloc),
         Call::Pool => serve_pool(rt, alloc),
+        Call::Log => write_logs(rt, alloc),
         Call::Events => check_events(alloc),
         Call::Marks => check_marks(alloc),
         Call::Script(text, report) => run_script(alloc, text, report),

@@ -5,6 +5,7 @@
 mod calls;
 mod checkers;
 mod host;
+mod log;
 mod pool;
 mod streams;
 mod value_worker;
