@@ -1,4 +1,5 @@
 //! Pools: worked rows, turns, and what threads see.
+mod again;
 mod draining;
 mod drops;
 mod hands;

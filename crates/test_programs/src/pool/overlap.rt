@@ -16,13 +16,13 @@ const LOOKS: u32 = 20_000_000;
 
 /// Before the item of each of three queues it waits until all three are there, and counts the queues to which that came.
 #[derive(Drop)]
-struct Meeting {
+pub(crate) struct Meeting {
     here: [AtomicU64; 3],
-    met: AtomicU64,
+    pub(crate) met: AtomicU64,
 }
 
 impl Meeting {
-    fn new() -> Meeting {
+    pub(crate) fn new() -> Meeting {
         Meeting {
             here: [AtomicU64::new(0), AtomicU64::new(0), AtomicU64::new(0)],
             met: AtomicU64::new(0),

@@ -17,6 +17,9 @@ use wq_pool::{Gate, NoGate, Served};
 /// So often it is looked what the other thread has done.
 const LOOKS: u32 = 20_000_000;
 
+/// So often a run meets another thread that takes each place.
+const CROWDED_ROUNDS: u32 = 50;
+
 /// Whether the other thread came, within so many looks.
 fn has_come(flag: &AtomicU64) -> bool {
     for _ in 0..LOOKS {
@@ -108,6 +111,66 @@ fn restless_queue_gives_way_where_no_place_is_free(rt: HostRuntime) {
     let worker = Guest::new(&pool, worker);
     run_restless(&rt, worker, Guest::new(&pool, caller), &mut two);
     finish_unfinished(&rt, pool, 0, (0, 1));
+}
+
+/// Whether an item of the second queue has ended.
+#[derive(Drop)]
+struct Second {
+    ended: AtomicU64,
+}
+
+impl Gate for Second {
+    fn before(&self, queue: u32, item: u32) {
+        let _ = (queue, item);
+    }
+
+    fn after(&self, queue: u32, item: u32) {
+        let _ = item;
+        if queue == 1 {
+            self.ended.store(1, SeqCst);
+        }
+    }
+}
+
+/// Announces the first queue over and over, until an item of the second has ended.
+fn announce_on<R: Abort + Wait>(rt: &R, guest: &mut Guest<'_>, second: &Second) {
+    for _ in 0..LOOKS {
+        if second.ended.load(SeqCst) > 0 {
+            return;
+        }
+        let _ = guest.announce(rt, 0);
+    }
+}
+
+/// One worker runs the pool, of which both queues are announced, while another thread takes each place that gets free.
+fn run_crowded<R: Abort + Threads + Wait + Sync>(rt: &R, worker: Guest<'_>, mut guest: Guest<'_>) {
+    for queue in 0..2u32 {
+        assert!(rt; guest.announce(rt, queue));
+    }
+    let second = Second {
+        ended: AtomicU64::new(0),
+    };
+    run_beside(rt, worker, &second, || announce_on(rt, &mut guest, &second));
+    expect_same(rt, second.ended.load(SeqCst), 1);
+}
+
+/// The same where others announce all the time, and take the room that was made for it.
+#[test]
+fn restless_queue_gives_way_to_others_places(rt: HostRuntime) {
+    for _round in 0..CROWDED_ROUNDS {
+        let Two {
+            queues,
+            mut one,
+            mut two,
+        } = new_two(&rt, rt.alloc(), 0);
+        queue_item(&rt, &mut one, 0);
+        one.request_stop(1);
+        queue_item(&rt, &mut two, 0);
+        two.request_stop(1);
+        let (pool, caller, worker) = new_pool_with_worker(&rt, rt.alloc(), queues);
+        run_crowded(&rt, Guest::new(&pool, worker), Guest::new(&pool, caller));
+        finish_unfinished(&rt, pool, 0, (0, 1));
+    }
 }
 
 /// Three queues with their stop items queued, the last with many items behind it, and a sender of each of the others.

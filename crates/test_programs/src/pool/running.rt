@@ -1,21 +1,34 @@
 //! When a run of a pool ends.
 use crate::expect::expect_same;
+use crate::pool::serving::serve_again;
 use crate::pool::team::{
-    Guest, Logging, empty, filled, finish_all, finish_unfinished, new_pool, new_pool_with_worker,
-    queue_item, to_stop,
+    Counting, Guest, Logging, empty, filled, finish_all, finish_unfinished, new_pool,
+    new_pool_with_worker, queue_item, run_beside, to_stop,
 };
 use std::alloc::Global;
 use std::process::Abort;
 use std::sync::Wait;
 use std::thread::Threads;
-use wq_pool::{NoGate, Pool, Served};
+use wq_live::Sender;
+use wq_pool::{Gate, NoGate, Pool, Served};
+use wq_turn::Runner;
 
-/// One worker runs a pool of so many queues.
-fn run_alone<R: Abort + Threads + Wait + Sync>(rt: &R, mut guest: Guest<'_>, queues: u32) {
+/// One worker runs a pool of so many queues, past this gate.
+fn run_past<R: Abort + Threads + Wait + Sync, G: Gate + Sync>(
+    rt: &R,
+    mut guest: Guest<'_>,
+    queues: u32,
+    gate: &G,
+) {
     for queue in 0..queues {
         assert!(rt; guest.announce(rt, queue));
     }
-    guest.run(rt, &NoGate);
+    guest.run(rt, gate);
+}
+
+/// One worker runs a pool of so many queues.
+fn run_alone<R: Abort + Threads + Wait + Sync>(rt: &R, guest: Guest<'_>, queues: u32) {
+    run_past(rt, guest, queues, &NoGate);
 }
 
 /// A queue counts once, however often its stop item runs and it is put back: the run goes on until the other's has run.
@@ -47,13 +60,72 @@ fn stop_item_counts_where_the_end_ran_it(rt: HostRuntime) {
     finish_all(&rt, pool, 1, 1);
 }
 
-/// A run goes on at a turn that was given back, until nothing is left of it.
+/// A run goes on at a turn that was given back, until nothing is left of it, and each item passes the gate.
 #[test]
 fn long_turns_are_run(rt: HostRuntime) {
     let queues = to_stop(&rt, rt.alloc(), 2, 3000);
     let (pool, caller) = new_pool(&rt, rt.alloc(), queues);
-    run_alone(&rt, Guest::new(&pool, caller), 2);
+    let gate = Counting::new();
+    run_past(&rt, Guest::new(&pool, caller), 2, &gate);
+    expect_same(&rt, gate.count(), 6000);
     finish_all(&rt, pool, 0, 2);
+}
+
+/// The worker of a queue after it has run its stop item, which is counted where that is asked for.
+fn after_stop<R: Abort>(
+    rt: &R,
+    served: Served<Logging>,
+    sender: &mut Sender,
+    is_counted: bool,
+) -> Served<Logging> {
+    sender.request_stop(1);
+    let mut runner = Runner::of(served);
+    runner.work(0, 9, &NoGate);
+    if is_counted {
+        assert!(rt; runner.count_stop());
+    }
+    assert!(rt; !runner.owes());
+    runner.into_served()
+}
+
+/// An item is served by the run, and then the stop item is queued.
+fn serve_and_stop<R: Abort + Wait>(rt: &R, guest: &mut Guest<'_>, sender: &mut Sender) {
+    serve_again(rt, guest, sender, 0);
+    let answer = sender.request_stop(u32::MAX);
+    guest.wake(rt, 0, answer);
+}
+
+/// The worker runs its pool meanwhile.
+fn run_to_stop<R: Abort + Threads + Wait + Sync>(
+    rt: &R,
+    worker: Guest<'_>,
+    mut guest: Guest<'_>,
+    sender: &mut Sender,
+) {
+    run_beside(
+        rt,
+        worker,
+        &NoGate,
+        || serve_and_stop(rt, &mut guest, sender),
+    );
+}
+
+/// Runs a pool whose one queue has run its stop item before.
+fn run_after_stop<R: Abort + Threads + Wait + Sync>(rt: &R, alloc: Global, is_counted: bool) {
+    let (served, mut sender) = empty(rt, alloc, 1, Logging::new());
+    let served = after_stop(rt, served, &mut sender, is_counted);
+    let queues = Vec::from_array(alloc, [served]).expect(rt, "memory");
+    let (pool, caller, worker) = new_pool_with_worker(rt, alloc, queues);
+    let worker = Guest::new(&pool, worker);
+    run_to_stop(rt, worker, Guest::new(&pool, caller), &mut sender);
+    finish_all(rt, pool, 0, 1);
+}
+
+/// A stop item that ran before the pool was made counts for nothing, whether it was counted then or not: a run waits for another one.
+#[test]
+fn stop_item_of_before_does_not_count(rt: HostRuntime) {
+    run_after_stop(&rt, rt.alloc(), false);
+    run_after_stop(&rt, rt.alloc(), true);
 }
 
 /// A queue whose work asks for its item again and again, with the item and the stop item queued, and so many others.

@@ -30,7 +30,7 @@ pub(crate) fn new_two<R: Abort>(rt: &R, alloc: Global, asks_from: u32) -> Two {
 }
 
 /// Whether the barrier has run, within so many looks.
-fn is_flushed<R: Abort>(rt: &R, sender: &mut Sender) -> bool {
+pub(crate) fn is_flushed<R: Abort>(rt: &R, sender: &mut Sender) -> bool {
     for _ in 0..LOOKS {
         assert!(rt; 0 < sender.layout().barriers);
         if sender.flush_done(0) {
@@ -42,7 +42,12 @@ fn is_flushed<R: Abort>(rt: &R, sender: &mut Sender) -> bool {
 }
 
 /// Queues an item and a barrier, and announces the queue where that wakes it. Both are served.
-fn serve_again<R: Abort + Wait>(rt: &R, guest: &mut Guest<'_>, sender: &mut Sender, queue: u32) {
+pub(crate) fn serve_again<R: Abort + Wait>(
+    rt: &R,
+    guest: &mut Guest<'_>,
+    sender: &mut Sender,
+    queue: u32,
+) {
     assert!(rt; 0 < sender.layout().items);
     let answer = sender.queue(rt, 0);
     guest.wake(rt, queue, answer);
