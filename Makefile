@@ -80,12 +80,12 @@ memory:
 wrong-bodies:
 	checks/wrong_bodies.sh
 
-# The right answer in the place of each wrong body of the gate: what becomes of it is as in checks/goals. An hour on two processors.
+# The right answer in the place of each wrong body of the gate: what becomes of it is as in checks/goals. About as long.
 controls:
 	checks/wrong_bodies.sh --controls
 
-# Times a script of a megabyte, scripts of one command alone, executed items beside the same scheme in C, in one thread and in
-# several, items that bring values beside channels of Rust, and a pool beside others in C.
+# Times what bench/README.md lists: scripts, executed items, values, pools, calls from C, delay tables, large queues and recordings, most
+# of them beside others.
 bench: build library
 	checks/build.py bench_queue
 	crates/bench_queue/out/bench_queue
