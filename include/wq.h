@@ -290,8 +290,9 @@ static inline uint32_t wq_waiting(wq_seat *owner, uint32_t *count) { WQ_CALL(own
 static inline uint32_t wq_begin(wq_seat *owner, uint32_t *number) { WQ_CALL(owner, number, wq_c_begin(owner->room)); }
 /* Ends what runs. WQ_OK; WQ_NONE_RUNS. */
 static inline uint32_t wq_end(wq_seat *owner) { WQ_CALL(owner, WQ_NO_NUMBER, wq_c_end(owner->room)); }
-/* For an owner that is going to sleep. WQ_YES: the next queueing is answered WQ_WAKES. WQ_NO: something was queued, or the queue rests
- * already, so take before you sleep. WQ_IS_CLOSED, WQ_IS_DRAINING, WQ_SOME_WAIT, WQ_IS_RUNNING. */
+/* For an owner that is going to sleep. WQ_YES: the next queueing is answered WQ_WAKES, if no take, drain or close comes before it.
+ * WQ_NO: something was queued, or the queue rests already, so take before you sleep. WQ_IS_CLOSED, WQ_IS_DRAINING, WQ_SOME_WAIT,
+ * WQ_IS_RUNNING. */
 static inline uint32_t wq_rest(wq_seat *owner) { WQ_CALL(owner, WQ_NO_NUMBER, wq_c_rest(owner->room)); }
 /* Queues an item behind all that waits, from the execution that runs while the queue is closed or drains. WQ_QUEUED, WQ_PENDING;
  * WQ_NO_ITEM, WQ_IS_OPEN, WQ_NONE_RUNS. */

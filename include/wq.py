@@ -292,8 +292,9 @@ class Seat:
         self._call("end")
 
     def rest(self):
-        """An owner's, before it sleeps: True, and the next queueing `wakes`, or False where something was queued, or the queue rests
-        already: take before you sleep. Raises IS_CLOSED, IS_DRAINING, SOME_WAIT, IS_RUNNING."""
+        """An owner's, before it sleeps: True, and the next queueing `wakes`, if no take, drain or close comes before it; or False
+        where something was queued, or the queue rests already: take before you sleep. Raises IS_CLOSED, IS_DRAINING, SOME_WAIT,
+        IS_RUNNING."""
         return self._call("rest")[0] == Code.YES
 
     def chain(self, item):

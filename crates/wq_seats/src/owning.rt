@@ -272,7 +272,7 @@ fn rest_queue(owner: &mut Owner) -> Result<bool, SeatError>
 }
 
 /// Says once that the queue rests: true where nothing was pushed since the last take, drain or resume, and the queue did not rest.
-/// The next push then answers `wakes`.
+/// The next push then answers `wakes`, if no take, drain or close comes before it.
 ///
 /// # Errors
 /// `NotOwner`; `Closed`; `Draining`; `SomeWait`; `Running`.
