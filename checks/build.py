@@ -39,8 +39,8 @@ LINES_OF_LOADING = 250
 NICENESS = 5
 # the provers at work
 RUNNING = set()
-BEFORE = """Proves {names} and what it stands on, {count} crates, side by side on {processors} processors, and builds it. All that is said
-goes into {log}."""
+BEFORE = """Proves {names} and what it stands on, {count} crates, by at most {jobs} jobs at once, and builds it. All that is said goes
+into {log}."""
 LASTS = """From nothing that took 14 minutes by the clock on four processors, 45 minutes of them, in a slow hour of a shared host. A
 busier or slower machine takes up to three times as long, and where nothing has changed it takes some seconds."""
 
@@ -198,7 +198,11 @@ def lone_run(crates):
     """Waits for another run in this repository, and for `rt` in these crates, and keeps both out while what is given back is open."""
     held = [os.open(it, os.O_RDONLY) for it in (TOP / "crates.txt", *sorted(CRATES / it for it in crates))]
     for it in held:
-        fcntl.flock(it, fcntl.LOCK_EX)
+        try:
+            fcntl.flock(it, fcntl.LOCK_EX | fcntl.LOCK_NB)
+        except BlockingIOError:
+            print("Waits for another run in this repository, or for an `rt` in one of its crates.", flush=True)
+            fcntl.flock(it, fcntl.LOCK_EX)
     return held
 
 
@@ -213,7 +217,7 @@ def main():
     _held = lone_run(with_below(names))
     build = Build(names, Path(rt).resolve().parent.parent)
     with tempfile.NamedTemporaryFile("w", prefix="wqrun-build-", delete=False) as log:
-        print(BEFORE.format(names=" and ".join(names), count=len(build.crates), processors=PROCESSORS, log=log.name), flush=True)
+        print(BEFORE.format(names=" and ".join(names), count=len(build.crates), jobs=jobs_at_once(), log=log.name), flush=True)
         if names == [USUAL]:
             print(LASTS, flush=True)
         is_proved = build.prove_all(log)
