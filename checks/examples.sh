@@ -1,9 +1,9 @@
 #!/bin/bash
-# Runs each example with the program that is named, and compares what it writes, what it says of failures and its status with
-# what stands beside it: NAME.report, NAME.faults and NAME.status. Where one of them is missing, nothing and 0 are wanted. Each has
-# its line in examples/README.md. A kernel trace goes through the converter, which runs the `wqrun` that it finds in the PATH. The
-# history of each schedule, as `steps --history` writes it, is read and found legal. What is stored belongs to an example, and what
-# has a line in examples/README.md is there.
+# Runs each example with the program that is named, and compares what it writes, what it says of failures and its status with what
+# stands beside it: NAME.report, NAME.faults and NAME.status. Where one of them is missing, nothing and 0 are wanted. One that
+# does not end is stopped after 60 seconds. Each has its line in examples/README.md. A kernel trace goes through the converter,
+# which runs the `wqrun` that it finds in the PATH. The history of each schedule, as `steps --history` writes it, is read and
+# found legal. What is stored belongs to an example, and what has a line in examples/README.md is there.
 program=${1:?usage: checks/examples.sh PROGRAM}
 folder=$(dirname "$0")/../examples
 faults=$(mktemp)
@@ -36,7 +36,7 @@ for file in "$folder"/*.wq "$folder"/*.steps "$folder"/*.json "$folder"/recordin
     esac
     wanted=$(stored "$name.status")
     same=yes
-    "${command[@]}" "$file" 2>"$faults" | diff - <(stored "$name.report")
+    timeout 60 "${command[@]}" "$file" 2>"$faults" | diff - <(stored "$name.report")
     ended=("${PIPESTATUS[@]}")
     status=${ended[0]}
     [ "${ended[1]}" = 0 ] || same=no
@@ -64,7 +64,7 @@ while read -r name; do
 done < <(sed -n 's/^| `\([^`]*\)` |.*/\1/p' "$folder/README.md")
 # The history of each schedule is a legal recording.
 for file in "$folder"/*.steps; do
-    said=$("$program" steps --history "$file" | "$program" check /dev/stdin; echo "${PIPESTATUS[*]}")
+    said=$(timeout 60 "$program" steps --history "$file" | timeout 60 "$program" check /dev/stdin; echo "${PIPESTATUS[*]}")
     if [ "${said%%$'\n'*}" = legal ] && [ "${said##*$'\n'}" = "0 0" ]; then
         echo "$file: its history is legal"
     else
