@@ -2,7 +2,8 @@
  *
  * A queue has items (0 .. items-1), barriers (0 .. barriers-1) and a stop item. `wq_build` gives its owner a seat, `wq_hand_out` each
  * sender one. A seat is memory of the caller's, aligned as its type says (malloc's is not), made vacant by `wq_init` before any other
- * call, and not moved or copied until `wq_release`. No call takes NULL for a seat, and none finds it out.
+ * call. While it is a sender's or an owner's it is not copied, moved or freed. A vacant one may go; where it was moved it wants `wq_init`
+ * again. No call takes NULL for a seat, and none finds it out.
  *
  * Threads: any thread may use a seat, but one call at a time may be in it. A seat is handed to another thread by that thread's
  * start or join, a lock, or a sequentially consistent atomic (the default of C11's atomic_store and atomic_load); different seats of
@@ -27,12 +28,13 @@ extern "C" {
 #endif
 
 #define WQ_MAJOR 1        /* of the library that this header is for, libyeangvos.so.1 */
-#define WQ_SEAT_BYTES 256 /* wq_init compares it with what the library needs */
+#define WQ_SEAT_BYTES 256 /* wq_init compares these two with what the library needs */
+#define WQ_SEAT_ALIGN 128 /* so that seats of several threads share no cache line */
 #define WQ_MOST_TRIES UINT32_MAX
 
 /* With WQ_UNCHECKED the members behind the room, and what they find out, are left out. All files of a program agree on that. */
 typedef struct wq_seat {
-    unsigned char room[WQ_SEAT_BYTES] __attribute__((aligned(128))); /* seats of several threads share no cache line */
+    unsigned char room[WQ_SEAT_BYTES] __attribute__((aligned(WQ_SEAT_ALIGN)));
 #ifndef WQ_UNCHECKED
     struct wq_seat *self;  /* where wq_init made it: a copy of a seat, and memory that was not made one, is found out */
     struct wq_seat *owner; /* of its queue */
@@ -65,7 +67,8 @@ enum wq_code {
     WQ_SOME_WAIT = 73, WQ_NONE_WAITS = 74, WQ_IS_RUNNING = 75, WQ_NONE_RUNS = 76,
     /* of how seats are taken and given up: not vacant, all senders handed out, not run to its end, no memory, out of the limits. */
     WQ_IN_USE = 77, WQ_NO_SENDER = 78, WQ_NOT_DONE = 79, WQ_MEMORY = 80, WQ_ITEMS = 81, WQ_BARRIERS = 82, WQ_SENDERS = 83,
-    /* What this header finds out: another call is in this seat; wq_init did not make it here; WQ_SEAT_BYTES is too small. */
+    /* What this header finds out: another call is in this seat; wq_init did not make it here, or the memory is not aligned for one;
+     * WQ_SEAT_BYTES or WQ_SEAT_ALIGN is too small. */
     WQ_SEAT_BUSY = 128, WQ_NO_SEAT = 129, WQ_SEAT_SIZE = 130,
     WQ_NO_THREAD = 131 /* of wq_worker.h: no thread could be started; the queue may rest then */
 };
@@ -168,15 +171,17 @@ static inline uint32_t wq_answer(uint64_t word, uint32_t *number) {
 #define WQ_NO_NUMBER ((uint32_t *)0)
 
 /* ---- seats */
-/* Makes memory a vacant seat; not for one that is taken. WQ_OK or WQ_SEAT_SIZE. */
+/* Makes memory a vacant seat; one that is a sender's or an owner's is lost by it. WQ_OK; WQ_NO_SEAT where the memory is not aligned as
+ * the type says, which malloc's need not be, or WQ_SEAT_SIZE. */
 static inline uint32_t wq_init(wq_seat *seat) {
 #ifndef WQ_UNCHECKED
+    if ((uintptr_t)seat % WQ_SEAT_ALIGN) return WQ_NO_SEAT;
     seat->self = NULL;
     seat->owner = seat;
     __atomic_store_n(&seat->held, 0, __ATOMIC_RELEASE);
     __atomic_store_n(&seat->served, 0, __ATOMIC_RELEASE);
 #endif
-    if (wq_c_seat_size() > WQ_SEAT_BYTES || 128 % wq_c_seat_align() != 0) return WQ_SEAT_SIZE;
+    if (wq_c_seat_size() > WQ_SEAT_BYTES || WQ_SEAT_ALIGN % wq_c_seat_align() != 0) return WQ_SEAT_SIZE;
     wq_c_init(seat->room);
 #ifndef WQ_UNCHECKED
     seat->self = seat;

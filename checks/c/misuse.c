@@ -1,4 +1,5 @@
-/* What the header finds out: memory that wq_init did not make a seat, a copy of a seat, and two calls in one seat at once. */
+/* What the header finds out: memory that wq_init did not make a seat, or that is not aligned as one, a seat that was copied or moved, and
+ * two calls in one seat at once. */
 #include "check.h"
 #include "wq.h"
 #include <pthread.h>
@@ -63,6 +64,28 @@ static void all_are_refused(wq_seat *seat, uint32_t why) {
     CHECK(number == 4711 && memcmp(&sums, &none, sizeof sums) == 0);
 }
 
+/* Memory as malloc may give it: no address between two multiples of what a seat is aligned by is one of a seat, and nothing is written
+ * there. */
+static void unaligned_is_refused(void) {
+    static wq_seat room[2], untouched[2];
+    for (size_t at = sizeof(void *); at < WQ_SEAT_ALIGN; at += sizeof(void *))
+        CHECK(wq_init((wq_seat *)(void *)(room[0].room + at)) == WQ_NO_SEAT);
+    CHECK(memcmp(room, untouched, sizeof room) == 0);
+    CHECK(wq_init(room) == WQ_OK && wq_release(room) == WQ_OK);
+}
+
+/* A vacant seat may be moved, as by a realloc: it is no seat where it is then until it is made one there. */
+static void moved_is_made_again(void) {
+    static wq_seat before, after;
+    uint32_t count;
+    CHECK(wq_init(&before) == WQ_OK);
+    memcpy(&after, &before, sizeof after);
+    memset(&before, 0xff, sizeof before);
+    all_are_refused(&after, WQ_NO_SEAT);
+    CHECK(wq_init(&after) == WQ_OK && wq_build(&after, 1, 1, 1) == WQ_OK);
+    CHECK(wq_close(&after, &count) == WQ_OK && count == 0 && wq_release(&after) == WQ_OK);
+}
+
 /* As while a call of another thread is in the seat: it is in it still when each was refused. */
 static void all_are_refused_while_held(wq_seat *seat) {
     seat->held = 1;
@@ -93,6 +116,8 @@ int main(void) {
     CHECK(wq_build(&owner, 64, 1, 1) == WQ_OK && wq_hand_out(&owner, &blank) == WQ_NO_SEAT && wq_hand_out(&owner, &shared) == WQ_OK);
     memcpy(&copy, &shared, sizeof copy);
     all_are_refused(&copy, WQ_NO_SEAT);
+    unaligned_is_refused();
+    moved_is_made_again();
     all_are_refused_while_held(&vacant);
     all_are_refused_while_held(&shared);
     all_are_refused_while_held(&owner);
