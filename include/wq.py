@@ -16,7 +16,10 @@ A call that is refused raises WqError with its code, and has changed nothing. A 
 it. It is given up by `release`, at the end of a `with`, or where nobody holds it any more; an owner's only once its queue has run to its
 end, else a dropped one loses the queue's memory, with a ResourceWarning. `check_history` judges a history. The library is the file that
 YEANGVOS_LIBRARY names, or libyeangvos.so.1 where the loader finds it. The import raises OSError where it is not found, and ImportError
-where a seat of it wants another alignment than a Seat has.
+where it has not each call that is made here, or a seat of it wants another alignment than a Seat has.
+
+A call lets other threads of Python run while it is in the library. A `queue` with the most tries spins there where many seats push at
+once. A queue is of one process: a forked child has a copy of it, in which nothing of its parent's comes to pass.
 """
 import array
 import ctypes
@@ -106,15 +109,17 @@ class WqError(Exception):
 
 
 _library = ctypes.CDLL(os.environ.get("YEANGVOS_LIBRARY") or "libyeangvos.so.1")  # which WQ_MAJOR of wq.h names, too
-_library.wq_c_seat_size.restype = _library.wq_c_seat_align.restype = ctypes.c_size_t
-if ALIGNMENT % _library.wq_c_seat_align():  # wq_init answers WQ_SEAT_SIZE; a seat's size is asked for each one
-    raise ImportError(f"a seat of {_library._name} is aligned by {_library.wq_c_seat_align()}, and not by {ALIGNMENT}")
-for _name in ("build hand_out release queue is_pending flush_begin flush_done request_stop set_spins number take close drain resume next "
-              "waiting begin end rest chain is_done count").split():
-    getattr(_library, "wq_c_" + _name).restype = ctypes.c_uint64
-
-
-_library.wq_c_check_history.restype = ctypes.c_uint32
+try:
+    _library.wq_c_seat_size.restype = _library.wq_c_seat_align.restype = ctypes.c_size_t
+    if ALIGNMENT % _library.wq_c_seat_align():  # wq_init answers WQ_SEAT_SIZE; a seat's size is asked for each one
+        raise ImportError(f"a seat of {_library._name} is aligned by {_library.wq_c_seat_align()}, and not by {ALIGNMENT}")
+    _library.wq_c_init.restype = None
+    for _name in ("build hand_out release queue is_pending flush_begin flush_done request_stop set_spins number take close drain resume "
+                  "next waiting begin end rest chain is_done count").split():
+        getattr(_library, "wq_c_" + _name).restype = ctypes.c_uint64
+    _library.wq_c_check_history.restype = ctypes.c_uint32
+except AttributeError as _error:  # else the first call of what is missing would say it
+    raise ImportError(f"{_library._name} is no library for this wq.py: {_error}") from _error
 
 
 def _words(**numbers):
@@ -144,7 +149,8 @@ def _rows(events):
 
 def check_history(events, items, barriers, senders):
     """None where the events, each a Kind, a sender and a number, are a legal history of a queue of this size; else the place of the first
-    that may not come, and its Fault. What an event does not have is 0."""
+    that may not come, and its Fault. What an event does not have is not read, but stands there. Raises ITEMS, BARRIERS, SENDERS or
+    MEMORY, and ValueError or TypeError for an event that is not three numbers of 32 bits."""
     place, rows = ctypes.c_size_t(0), _rows(events)
     count = ctypes.c_size_t(len(rows) // 3)
     rows.append(0)  # so that it has an address also where there is no event
@@ -170,13 +176,16 @@ class Seat:
         self._at = ctypes.c_void_p(-(-ctypes.addressof(self._room) // ALIGNMENT) * ALIGNMENT)
         self._lock = threading.RLock()  # a signal's handler or a finalizer may call the seat that its own thread is about to call
         _library.wq_c_init(self._at)
+        self._process = os.getpid()
         # not at the program's end, when another thread may still be in it
-        weakref.finalize(self, _drop, self._at, self._room, os.getpid()).atexit = False
+        weakref.finalize(self, _drop, self._at, self._room, self._process).atexit = False
 
     def __enter__(self):
         return self
 
     def __exit__(self, kind, *_):
+        if os.getpid() != self._process:
+            return  # a child that was forked: the seat is its parent's
         try:
             self.release()
         except WqError:
@@ -201,7 +210,10 @@ class Seat:
         self._call("build", items=items, barriers=barriers, senders=senders)
 
     def hand_out(self, to):
-        """An owner's: gives a vacant seat to the sender with the highest number that is left. Raises IN_USE, NO_SENDER."""
+        """An owner's: gives a vacant seat to the sender with the highest number that is left. Raises IN_USE, NO_SENDER, and TypeError for
+        what is no Seat."""
+        if not isinstance(to, Seat):
+            raise TypeError(f"{to!r} is no seat")
         if to is self:
             raise WqError(Error.IN_USE)
         first, second = sorted((self, to), key=id)  # one order for both ways, so that two threads never wait for each other

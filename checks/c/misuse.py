@@ -5,9 +5,11 @@ import decimal
 import gc
 import os
 import pickle
+import re
 import runpy
 import signal
 import warnings
+from pathlib import Path
 import wq
 from wq import Code, Counts, Error, Fault, Kind, Seat, WqError, check_history
 
@@ -87,11 +89,39 @@ class Wide:
     wq_c_seat_size = wq_c_seat_align = staticmethod(lambda: 256)
 
 
-def alignment():
-    """A library whose seats want another alignment is refused where it is imported."""
-    real, ctypes.CDLL = ctypes.CDLL, lambda _: Wide()
-    raised(ImportError, "aligned by 256", runpy.run_path, wq.__file__)
+class Without:
+    """In place of the library, which it is but for one name."""
+    _name = "short"
+
+    def __init__(self, missing):
+        self.missing = missing
+
+    def __getattr__(self, name):
+        if name == self.missing:
+            raise AttributeError(name)
+        return getattr(wq._library, name)
+
+
+def import_is_refused(error, text, library):
+    real, ctypes.CDLL = ctypes.CDLL, lambda _: library
+    raised(error, text, runpy.run_path, wq.__file__)
     ctypes.CDLL = real
+
+
+def imports():
+    """A library is refused where it is imported that is not there, that has not each export of the headers, or whose seats want another
+    alignment."""
+    named = os.environ["YEANGVOS_LIBRARY"]
+    for library, error in (f"{named}.none", OSError), ("libc.so.6", ImportError):
+        os.environ["YEANGVOS_LIBRARY"] = library
+        raised(error, library, runpy.run_path, wq.__file__)
+    os.environ["YEANGVOS_LIBRARY"] = named
+    text = "".join((Path(wq.__file__).parent / name).read_text() for name in ("wq.h", "wq_pure.h"))
+    exports = re.findall(r"^[a-z0-9_]+ (wq_c_[a-z_]+)\(", text, re.MULTILINE)
+    assert len(exports) == len(set(exports)) and {"wq_c_seat_size", "wq_c_init", "wq_c_count", "wq_c_check_history"} < {*exports}
+    for export in exports:
+        import_is_refused(ImportError, f"short is no library for this wq.py: {export}", Without(export))
+    import_is_refused(ImportError, "wide is aligned by 256", Wide())
 
 
 class Told:
@@ -117,6 +147,7 @@ def hand_outs():
     raised(WqError, "IN_USE", two.hand_out, one)
     assert len(taken) == 4 and taken[:2] == taken[2:]
     raised(WqError, "IN_USE", one.hand_out, one)
+    raised(TypeError, "None is no seat", one.hand_out, None)
     for seat in one, two:
         seat.close()
         seat.release()
@@ -191,7 +222,7 @@ def dropped_seats(released):
 
 
 def drops():
-    """A seat that nobody holds any more is given up, but not in a child, whose memory of it is a copy."""
+    """A seat that nobody holds any more is given up, and so is that of a `with`, but not in a child, whose memory of it is a copy."""
     gc.collect()  # what the parts before left
     real, released = wq._library.wq_c_release, []
 
@@ -202,15 +233,16 @@ def drops():
     wq._library.wq_c_release = told
     dropped_seats(released)
     seat = Seat()
-    child = os.fork()
+    with Seat() as ended:
+        child = os.fork()
     if not child:
-        del seat
+        del seat, ended
         gc.collect()
         os._exit(len(released))
-    assert os.waitpid(child, 0)[1] == 0
+    assert os.waitpid(child, 0)[1] == 0 and released == [ended._at.value]
     del seat
     gc.collect()
-    assert len(released) == 1
+    assert len(released) == 2
     wq._library.wq_c_release = real
 
 
@@ -231,6 +263,6 @@ def nested():
     run_to_end(owner)
 
 
-for part in numbers, events, alignment, hand_outs, codes, sums, errors, ends, drops, nested:
+for part in numbers, events, imports, hand_outs, codes, sums, errors, ends, drops, nested:
     part()
 print("misuse.py: each is found out by its error")
