@@ -75,7 +75,7 @@ enum wq_code {
 
 /* Whether this code of a queueing says that it was accepted. */
 static inline int wq_is_queued(uint32_t code) { return (code & WQ_QUEUED) && code < WQ_PENDING; }
-/* Whether who got this answer has to wake the owner. */
+/* Whether the thread that got this answer has to wake the owner. */
 static inline int wq_wakes(uint32_t code) { return wq_is_queued(code) && (code & WQ_WAKES) != 0; }
 
 /* The name of an answer, without its WQ_: "QUEUED|FIRST", say. It is "?" where this header has no such code. */

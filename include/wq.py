@@ -52,7 +52,7 @@ class Code(enum.IntEnum):
 
     @property
     def wakes(self):
-        """Whether who queued has to wake the owner."""
+        """Whether the thread that queued has to wake the owner."""
         return self.is_queued and bool(self & 4)
 
 

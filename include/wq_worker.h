@@ -171,7 +171,7 @@ static inline uint32_t wq_worker_ring(wq_worker *worker, uint32_t code) {
 }
 
 /* Wakes the worker where a queueing of wq.h was answered WQ_WAKES, on which it would sleep on; for wq_queue_tries, wq_flush_begin and
- * wq_request_stop. Where it was turned back, this wakes who sleeps in wq_worker_flush: a thread that flushes the same barrier may have
+ * wq_request_stop. Where it was turned back, this wakes whoever sleeps in wq_worker_flush: a thread that flushes the same barrier may have
  * seen its bit set meanwhile, and looks again. Gives the code back. */
 static inline uint32_t wq_worker_wake(wq_worker *worker, uint32_t code) {
     if (code == WQ_CLOSED || code == WQ_DRAINING || code == WQ_CONTENDED) wq_count(&worker->flushes);
@@ -225,7 +225,7 @@ static inline void wq_worker_finish(wq_worker *worker) {
 }
 /* The same, also after it, and gives the owner's seat up. The worker's memory is still that of each sender whose call has not returned
  * (above). WQ_NO_SEAT of a worker that was not started, in memory that is zero, or that has given its seat up, and WQ_NOT_DONE in the
- * worker's own function. Who releases the seat behind wq_worker_finish does so once, by this or by wq_release. */
+ * worker's own function. Whoever releases the seat behind wq_worker_finish does so once, by this or by wq_release. */
 static inline uint32_t wq_worker_stop(wq_worker *worker) {
     uint32_t code;
     wq_worker_finish(worker);
