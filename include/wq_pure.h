@@ -51,12 +51,13 @@ static inline const char *wq_fault_name(uint32_t code) {
     return code >= WQ_FAULT_NO_EVENT && code <= WQ_FAULT_NOT_ENDED ? faults[code - WQ_FAULT_NO_EVENT] : wq_code_name(code);
 }
 
+/* The proved export. Neither address is NULL, also where the count is 0; wq_check_history sees to that. */
 uint32_t wq_c_check_history(const wq_event *events, size_t count, uint32_t items, uint32_t barriers, uint32_t senders, size_t *place);
 
 /* Whether these events, oldest first, are a legal history of a queue of this size: executions follow the order of acceptance, each at
  * most once, and one at a time; what is accepted may still wait. WQ_OK where they are; WQ_ITEMS, WQ_BARRIERS, WQ_SENDERS or WQ_MEMORY;
- * else the fault of the first event that may not come, whose place, counted from 0, goes to place, which may be NULL. Takes time in the
- * count of events. */
+ * else the fault of the first event that may not come, whose place, counted from 0, goes to place, which may be NULL. So may events where
+ * the count is 0. There are as many as the count says, and nobody writes them meanwhile. Takes time in the count. */
 static inline uint32_t wq_check_history(
     const wq_event *events, size_t count, uint32_t items, uint32_t barriers, uint32_t senders, size_t *place) {
     static const wq_event none = {0, 0, 0};
