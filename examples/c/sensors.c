@@ -48,7 +48,7 @@ static int serve(void) {
     for (;;) {
         wq_take(&owner, NULL);
         if (execute()) return 0;
-        /* WQ_NO: something was queued meanwhile, or the queue rests already; only the first sleep could find that */
+        /* WQ_NO: something was queued since the take, so take again */
         if (wq_rest(&owner) == WQ_YES && read(bell, &rings, sizeof rings) != sizeof rings) return 1;
     }
 }
