@@ -9,7 +9,8 @@
  * start or join, a lock, or a sequentially consistent atomic (the default of C11's atomic_store and atomic_load); different seats of
  * one queue need nothing. No call waits, starts a thread, or takes a lock of its own. Only wq_build takes memory, which the release of
  * a queue's last seat frees, and wq_check_history of wq_pure.h, which frees it before it returns. The allocator of these three may take
- * a lock. No call is for the forked child of a process with threads.
+ * a lock. Any call may change errno. No call is for a thread that is cancelled asynchronously, nor for the forked child of a process with
+ * threads. A queue is of one process: a forked child has a copy of it, and no seat lies in memory that processes share.
  *
  * Signals: a handler's calls are those of the thread that it interrupts. A handler makes no call in a seat in which a call was
  * interrupted. Nor does it call one of the three that take or free memory, wq_measured_spins, or wq_worker.h.
@@ -61,8 +62,8 @@ enum wq_code {
     WQ_NOT_SENDER = 64, WQ_NOT_OWNER = 65,
     /* of the arguments, */
     WQ_NO_ITEM = 66, WQ_NO_BARRIER = 67, WQ_NO_TRIES = 68,
-    /* of how the queue stands: closed, draining, not draining, open; something that was taken waits, nothing does; a number runs, none
-     * does; */
+    /* of how the queue stands: closed, draining, not draining, open; something that was taken or chained waits, nothing does; a number
+     * runs, none does; */
     WQ_IS_CLOSED = 69, WQ_IS_DRAINING = 70, WQ_NOT_DRAINING = 71, WQ_IS_OPEN = 72,
     WQ_SOME_WAIT = 73, WQ_NONE_WAITS = 74, WQ_IS_RUNNING = 75, WQ_NONE_RUNS = 76,
     /* of how seats are taken and given up: not vacant, all senders handed out, not run to its end, no memory, out of the limits. */
@@ -284,7 +285,7 @@ static inline uint32_t wq_take(wq_seat *owner, uint32_t *count) { WQ_CALL(owner,
 static inline uint32_t wq_close(wq_seat *owner, uint32_t *count) { WQ_CALL(owner, count, wq_c_close(owner->room)); }
 /* Begins a drain, and takes and counts all that was queued. WQ_OK; WQ_IS_CLOSED, WQ_IS_DRAINING. */
 static inline uint32_t wq_drain(wq_seat *owner, uint32_t *count) { WQ_CALL(owner, count, wq_c_drain(owner->room)); }
-/* Ends a drain, once all that was taken has ended. WQ_OK; WQ_NOT_DRAINING, WQ_SOME_WAIT, WQ_IS_RUNNING. */
+/* Ends a drain, once all that was taken or chained has ended. WQ_OK; WQ_NOT_DRAINING, WQ_SOME_WAIT, WQ_IS_RUNNING. */
 static inline uint32_t wq_resume(wq_seat *owner) { WQ_CALL(owner, WQ_NO_NUMBER, wq_c_resume(owner->room)); }
 /* The oldest number that was taken or chained and has not begun. WQ_OK; WQ_NONE_WAITS. */
 static inline uint32_t wq_next(wq_seat *owner, uint32_t *number) { WQ_CALL(owner, number, wq_c_next(owner->room)); }
@@ -323,7 +324,8 @@ static inline uint64_t wq_sum_counts(wq_seat *seat, wq_counts *sums) {
  * is vacant. WQ_OK. */
 static inline uint32_t wq_add_counts(wq_seat *seat, wq_counts *sums) { WQ_CALL(seat, WQ_NO_NUMBER, wq_sum_counts(seat, sums)); }
 
-/* Whether all that was accepted was executed. So it is of the sums over all seats of a queue that has run to its end. */
+/* Whether all that was accepted was executed. So it is of the sums over all seats of a queue that has run to its end, where no count has
+ * reached 2^64 - 1. */
 static inline int wq_balances(const wq_counts *sums) { return sums->queued + sums->chained == sums->executed; }
 
 #ifdef __cplusplus

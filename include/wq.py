@@ -95,7 +95,8 @@ class Counts(typing.NamedTuple):
 
     @property
     def balances(self):
-        """Whether all that was accepted was executed, of the sums over all seats of a queue that has run to its end."""
+        """Whether all that was accepted was executed, of the sums over all seats of a queue that has run to its end. So it is where no
+        count has reached 2 ** 64 - 1, at which each stops."""
         return self.queued + self.chained == self.executed
 
 
@@ -275,7 +276,7 @@ class Seat:
         return self._call("drain")[1]
 
     def resume(self):
-        """An owner's: ends a drain, once all that was taken has ended. Raises NOT_DRAINING, SOME_WAIT, IS_RUNNING."""
+        """An owner's: ends a drain, once all that was taken or chained has ended. Raises NOT_DRAINING, SOME_WAIT, IS_RUNNING."""
         self._call("resume")
 
     def waiting(self):

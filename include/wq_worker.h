@@ -11,6 +11,9 @@
  * worker knows nothing of it, and sleeps until it is asked to. wq_worker_resume alone does not end such a drain: call wq_worker_drain
  * first.
  *
+ * Neither the worker, a seat nor the function is NULL, which nothing finds out. Any call may change errno. The join in wq_worker_finish
+ * and wq_worker_stop is a cancellation point, and no other call is one; after it another thread may call them.
+ *
  * The worker's memory is zero before its first start: static, or = {0}, in C++ = {}. A start that answers an error writes nothing there,
  * but where that is WQ_NO_THREAD, and a wq_worker_stop behind it reads it.
  *
