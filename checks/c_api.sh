@@ -231,10 +231,18 @@ files=$(grep -oE 'examples/c/[a-z.]+' docs/C.md)
 for file in $files; do
     [ -e "$work/installed/share/doc/yeangvos/$file" ] || { echo "docs/C.md names $file, which is not installed"; exit 1; }
 done
-names=$(nm -D --defined-only "$work/libyeangvos.so" | awk '{ print $3 }')
-grep -q '^wq_c_build$' <<<"$names" || { echo "the library defines no wq_c_build"; exit 1; }
-defined=$(grep -vE '^(wq_c_[a-z_]+|rattle_(alloc|realloc|dealloc))$' <<<"$names" || true)
-[ -z "$defined" ] || { echo "the library defines names that docs/C.md does not tell: $defined"; exit 1; }
+# defines LIBRARY NAMES: it defines calls of C, and nothing else that does not match these names
+defines() {
+    local names defined
+    names=$(nm -D --defined-only "$1" | awk '{ print $3 }')
+    grep -q '^wq_c_build$' <<<"$names" || { echo "the library defines no wq_c_build"; exit 1; }
+    defined=$(grep -vxE "$2" <<<"$names" || true)
+    [ -z "$defined" ] || { echo "$(basename "$1") defines names that docs/C.md does not tell: $defined"; exit 1; }
+}
+defines "$work/libyeangvos.so" 'wq_c_[a-z_]+'
+# of the static one those are told that it defines where all of it is linked
+"${CC:-cc}" -shared -o "$work/whole.so" -Wl,--whole-archive "$work/libyeangvos.a" -Wl,--no-whole-archive
+defines "$work/whole.so" 'wq_c_[a-z_]+|rattle_(alloc|realloc|dealloc)'
 if command -v pkg-config >/dev/null; then
     export LD_LIBRARY_PATH=$work/running PKG_CONFIG_PATH=$work/installed/lib/pkgconfig
     [ "libyeangvos.so.$(pkg-config --modversion yeangvos)" = "$shared" ] || { echo "pkg-config: another version than that of $shared"; exit 1; }

@@ -1,8 +1,8 @@
 #!/usr/bin/env bash
 # Builds the library of C from crates/wq_c, FOLDER/libyeangvos.a and FOLDER/libyeangvos.so, with what of the kit it calls: three
-# functions over malloc, realloc and free. The shared one is a link to the file of its name and major number, by which a program that is
-# linked with it asks for it. What wq_c stands on is built by build.py, which proves nothing twice. PROVED=1 says that `rt ci` has proved
-# and built it in this tree, and wq_c is built over that.
+# functions over malloc, realloc and free, which the shared one keeps to itself. That one is a link to the file of its name and major
+# number, by which a program that is linked with it asks for it. What wq_c stands on is built by build.py, which proves nothing twice.
+# PROVED=1 says that `rt ci` has proved and built it in this tree, and wq_c is built over that.
 set -euo pipefail
 folder=$(realpath "${1:?usage: checks/c_library.sh FOLDER}")
 cd "$(dirname "${BASH_SOURCE[0]}")/.."
@@ -59,6 +59,8 @@ rm -f "$folder/libyeangvos.a"
 cp crates/wq_c/out/libwq_c.a "$kit/c/liblibc_c.a" "$made"
 (cd "$made" && printf 'create libyeangvos.a\naddlib libwq_c.a\naddlib liblibc_c.a\nsave\nend\n' | ar -M)
 install -m 644 "$made/libyeangvos.a" "$folder"
+echo '{ global: wq_c_*; local: *; };' >"$made/exports"
 shared=libyeangvos.so.$(sed -n 's/^#define WQ_MAJOR \([0-9]*\).*/\1/p' include/wq.h)
-"${CC:-cc}" -shared -Wl,-soname,"$shared" -o "$folder/$shared" -Wl,--whole-archive "$folder/libyeangvos.a" -Wl,--no-whole-archive
+"${CC:-cc}" -shared -Wl,-soname,"$shared" -Xlinker "--version-script=$made/exports" -o "$folder/$shared" \
+    -Wl,--whole-archive "$folder/libyeangvos.a" -Wl,--no-whole-archive
 ln -sf "$shared" "$folder/libyeangvos.so"
