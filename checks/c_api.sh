@@ -216,11 +216,18 @@ cp "$work/installed/lib/$shared" "$work/running"
 if command -v python3 >/dev/null; then
     env -u YEANGVOS_LIBRARY LD_LIBRARY_PATH="$work/running" PYTHONPATH="$work/installed/share/yeangvos/python" python3 -c 'import wq'
 fi
-# each call that docs/C.md names has a page, which begins with its name
-calls=$(sed -n '/^## The calls/,/^## Ownership/p' docs/C.md | grep -oE '`wq_[a-z_]+\(' | tr -d '`(' | sort -u)
+# each call of the headers, which is each function there that is none of the helpers, has a page, which begins with its name, and
+# stands in docs/C.md; and no call stands there that is none
+headers=(include/wq.h include/wq_worker.h include/wq_pure.h)
+helpers=$(sed -nE 's|^/\* Helpers, no calls of a program: (.*)\. \*/$|\1|p' "${headers[@]}" | tr -d ',' | tr ' ' '\n')
+calls=$(sed -nE 's/^static inline [a-z0-9_ ]+[ *](wq_[a-z_]+)\(.*/\1/p' "${headers[@]}" | grep -vxF "$helpers" | sort)
+told=$(sed -n '/^## The calls/,/^## Ownership/p' docs/C.md | grep -oE '`wq_[a-z_]+\(' | tr -d '`(' | sort -u)
+unknown=$(comm -13 <(echo "$calls") <(echo "$told"))
+[ -z "$unknown" ] || { echo "docs/C.md tells calls that no header has: $unknown"; exit 1; }
 for call in $calls; do
+    grep -qw "$call" docs/C.md || { echo "docs/C.md does not tell $call"; exit 1; }
     page=$work/installed/share/man/man3/$call.3
-    linked=$(sed -n 's|^\.so man3/||p' "$page")
+    linked=$(sed -n 's|^\.so man3/||p' "$page" 2>/dev/null || true)
     if ! sed -n '/^\.SH NAME/,/^\.SH SYNOPSIS/p' "${page%/*}/${linked:-$call.3}" | grep -qw "$call"; then
         echo "man: no page begins with $call"
         exit 1

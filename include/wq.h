@@ -141,6 +141,7 @@ void __tsan_release(void *token);
 #define WQ_RELEASE(seat) ((void)(seat))
 #endif
 
+/* Helpers, no calls of a program: wq_enter, wq_leave, wq_answer, wq_sum_counts. */
 static inline uint32_t wq_enter(wq_seat *seat) {
 #ifndef WQ_UNCHECKED
     if (seat->self != seat) return WQ_NO_SEAT;

@@ -51,6 +51,8 @@ typedef struct wq_worker {
     pthread_t thread;
 } wq_worker;
 
+/* Helpers, no calls of a program: wq_futex, wq_load, wq_sleep, wq_set, wq_count. */
+/* Helpers, no calls of a program: wq_worker_run, wq_worker_ask, wq_worker_claim, wq_worker_disclaim, wq_worker_launch, wq_worker_ring. */
 /* syscall of the C library, which unistd.h declares only where a program asks for more than the standard (_GNU_SOURCE). */
 long wq_system_call(long number, ...) __asm__("syscall");
 static inline long wq_futex(uint32_t *word, int operation, uint32_t value) {
