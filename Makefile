@@ -7,7 +7,7 @@ PROGRAM := crates/wqrun/out/wqrun
 EXAMPLES := examples
 LIBRARY := crates/wq_c/out
 
-.PHONY: run try test build library install prefix bench examples recordings rows c-api definitions memory wrong-bodies controls
+.PHONY: run try test build library install uninstall prefix bench examples recordings rows c-api definitions memory wrong-bodies controls
 
 run: build
 	$(PROGRAM) script $(EXAMPLES)/first.wq
@@ -31,11 +31,18 @@ library:
 
 # Refused before anything is proved where PREFIX is no path from the root, as checks/c_install.sh refuses it.
 install: prefix build library
-	install -D -m 755 $(PROGRAM) "$(DESTDIR)$(PREFIX)/bin/wqrun"
+	install -D -m 755 "$(PROGRAM)" "$(DESTDIR)$(PREFIX)/bin/wqrun"
 	install -D -m 644 man/wqrun.1 "$(DESTDIR)$(PREFIX)/share/man/man1/wqrun.1"
 	install -D -m 644 -t "$(DESTDIR)$(PREFIX)/share/doc/wqrun" docs/FORMATS.md docs/RECORDING.md
 	install -D -m 755 -t "$(DESTDIR)$(PREFIX)/share/doc/wqrun" examples/recording/wq_trace.py
-	checks/c_install.sh $(LIBRARY) "$(PREFIX)" "$(DESTDIR)"
+	checks/c_install.sh "$(LIBRARY)" "$(PREFIX)" "$(DESTDIR)"
+
+# Removes just the files that `install` puts there, and of the folders those that are its own, where nothing else stands in them.
+uninstall: prefix
+	rm -f "$(DESTDIR)$(PREFIX)/bin/wqrun" "$(DESTDIR)$(PREFIX)/share/man/man1/wqrun.1"
+	rm -f "$(DESTDIR)$(PREFIX)/share/doc/wqrun/"{FORMATS.md,RECORDING.md,wq_trace.py}
+	[ ! -d "$(DESTDIR)$(PREFIX)/share/doc/wqrun" ] || rmdir --ignore-fail-on-non-empty "$(DESTDIR)$(PREFIX)/share/doc/wqrun"
+	checks/c_install.sh --remove "$(PREFIX)" "$(DESTDIR)"
 
 prefix:
 	@case "$(PREFIX)" in /*) ;; *) echo "PREFIX is $(PREFIX), and no path from the root" >&2; exit 1 ;; esac

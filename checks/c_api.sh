@@ -1,8 +1,8 @@
 #!/usr/bin/env bash
 # Builds the library of C, and tests the calls of include/ from C, C++, Python and Rust: c_api.sh [WQRUN]. Where the program WQRUN is
 # named, it judges the histories of the random runs. Tools that are not installed are left out, each with a line: valgrind, rustc,
-# c++, clang, clang++, python3, pkg-config, and the sanitizers of cc and of clang. Three minutes of a processor, beside the proof of wq_c;
-# the other compiler of the kit takes that proof as it is kept.
+# c++, clang, clang++, python3, make, pkg-config, and the sanitizers of cc and of clang. Three minutes of a processor, beside the proof
+# of wq_c; the other compiler of the kit takes that proof as it is kept.
 set -euo pipefail
 wqrun=${1:+$(realpath "$1")}
 cd "$(dirname "${BASH_SOURCE[0]}")/.."
@@ -32,6 +32,13 @@ unmixed=()
 # sanitizes COMPILER SANITIZER: whether a program that the compiler makes with it runs
 sanitizes() {
     echo 'int main(void) { return 0; }' | "$1" -x c -fsanitize="$2" -o "$work/tried" - 2>/dev/null && "${unmixed[@]}" "$work/tried" 2>/dev/null
+}
+# refuses LINE COMMAND..: the command ends with an error and says so, in a line of its own
+refuses() {
+    if "${@:2}" >"$work/said" 2>&1 || ! grep -qxF "$1" "$work/said"; then
+        echo "not refused by '$1': ${*:2}"
+        exit 1
+    fi
 }
 does_not_run() {
     echo "$1: not there, or does not run, so left out"
@@ -204,6 +211,36 @@ diff <(cd "$work/installed" && find . | sort) <(cd "$work/staged/opt/wq" && find
 top=$PWD
 (cd "$work" && "$top/checks/c_install.sh" . /opt/wq from/here)
 diff -r "$work/staged" "$work/from/here"
+# what is no place or no library is refused before anything is installed
+for given in "$work" --remove; do
+    refuses "c_install.sh: PREFIX is opt/wq, and no path from the root" checks/c_install.sh "$given" opt/wq "$work/refused"
+done
+refuses "c_install.sh: $(realpath "$work/runs") has no libyeangvos.a" checks/c_install.sh "$work/runs" /opt/wq "$work/refused"
+[ ! -e "$work/refused" ] || { echo "install: something is installed of a folder without the library"; exit 1; }
+# left BELOW: the files there
+left() {
+    (cd "$1" && find . ! -type d | sort)
+}
+echo "a file of another program" >"$work/from/here/opt/wq/share/doc/yeangvos/other"
+(cd "$work" && "$top/checks/c_install.sh" --remove /opt/wq from/here)
+left "$work/from/here" | diff - <(echo ./opt/wq/share/doc/yeangvos/other)
+# what make puts there besides, of any program; it is told that all is built
+if command -v make >/dev/null; then
+    made=(env -u MAKEFLAGS make -s -o build -o library PROGRAM="${wqrun:-$work/codes}" LIBRARY="$work" DESTDIR="$work/made")
+    "${made[@]}" PREFIX=/opt/wq install
+    checks/c_install.sh --remove /opt/wq "$work/made"
+    [ -x "$work/made/opt/wq/bin/wqrun" ] || { echo "make install: no program"; exit 1; }
+    left "$work/made/opt/wq" | diff - <(printf './%s\n' bin/wqrun share/doc/wqrun/{FORMATS.md,RECORDING.md,wq_trace.py} share/man/man1/wqrun.1)
+    "${made[@]}" PREFIX=/opt/wq install
+    "${made[@]}" PREFIX=/opt/wq uninstall
+    left "$work/made" | diff - /dev/null
+    for target in install uninstall; do
+        refuses "PREFIX is opt/wq, and no path from the root" "${made[@]}" PREFIX=opt/wq $target
+    done
+else
+    left_out make
+fi
+echo "install: what was installed is removed, and nothing else"
 if grep -rl "$work/staged" "$work/staged" || [[ $(readlink "$work/staged/opt/wq/lib/libyeangvos.so") = */* ]]; then
     echo "install: the DESTDIR is named"
     exit 1
