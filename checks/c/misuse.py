@@ -81,6 +81,8 @@ def events():
     raised(TypeError, "event 0", check_history, ["abc"], 4, 1, 1)
     raised(ValueError, "items is 4294967297", check_history, [], WIDE + 1, 1, 1)
     raised(ValueError, "senders is -1", check_history, [], 1, 1, -1)
+    for error, size in ("ITEMS", (65537, 0, 0)), ("BARRIERS", (1, 17, 65)), ("SENDERS", (1, 1, 0)):
+        raised(WqError, error, check_history, end, *size)
 
 
 class Wide:
