@@ -64,12 +64,15 @@ static void all_are_refused(wq_seat *seat, uint32_t why) {
     CHECK(number == 4711 && memcmp(&sums, &none, sizeof sums) == 0);
 }
 
-/* Memory as malloc may give it: no address between two multiples of what a seat is aligned by is one of a seat, and nothing is written
- * there. */
+/* Memory as malloc may give it: no address between two multiples of what a seat is aligned by is one of a seat. Nothing is written there,
+ * and a caller that passes the answer over is refused by the next call. */
 static void unaligned_is_refused(void) {
     static wq_seat room[2], untouched[2];
-    for (size_t at = sizeof(void *); at < WQ_SEAT_ALIGN; at += sizeof(void *))
-        CHECK(wq_init((wq_seat *)(void *)(room[0].room + at)) == WQ_NO_SEAT);
+    for (size_t at = sizeof(void *); at < WQ_SEAT_ALIGN; at += sizeof(void *)) {
+        wq_seat *seat = (wq_seat *)(void *)(room[0].room + at);
+        CHECK(wq_init(seat) == WQ_NO_SEAT);
+        all_are_refused(seat, WQ_NO_SEAT);
+    }
     CHECK(memcmp(room, untouched, sizeof room) == 0);
     CHECK(wq_init(room) == WQ_OK && wq_release(room) == WQ_OK);
 }

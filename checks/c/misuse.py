@@ -113,7 +113,7 @@ def import_is_refused(error, text, library):
 def imports():
     """A library is refused where it is imported that is not there, that has not each export of the headers, or whose seats want another
     alignment."""
-    named = os.environ["YEANGVOS_LIBRARY"]
+    named = wq._library._name
     for library, error in (f"{named}.none", OSError), ("libc.so.6", ImportError):
         os.environ["YEANGVOS_LIBRARY"] = library
         raised(error, library, runpy.run_path, wq.__file__)
