@@ -16,7 +16,7 @@ A call that is refused raises WqError with its code, and has changed nothing. A 
 it. It is given up by `release`, at the end of a `with`, or where nobody holds it any more; an owner's only once its queue has run to its
 end, else a dropped one loses the queue's memory, with a ResourceWarning. `check_history` judges a history. The library is the file that
 YEANGVOS_LIBRARY names, or libyeangvos.so.1 where the loader finds it. The import raises OSError where it is not found, and ImportError
-where it has not each call that is made here, or a seat of it wants another alignment than a Seat has.
+where it lacks a call that is made here, or a seat of it wants another alignment than a Seat has.
 
 A call lets other threads of Python run while it is in the library. A `queue` with the most tries spins there where many seats push at
 once. A queue is of one process: a forked child has a copy of it, in which nothing of its parent's comes to pass.
@@ -150,8 +150,9 @@ def _rows(events):
 
 def check_history(events, items, barriers, senders):
     """None where the events, each a Kind, a sender and a number, are a legal history of a queue of this size; else the place of the first
-    that may not come, and its Fault. What an event does not have is not read, but stands there. Raises ITEMS, BARRIERS, SENDERS or
-    MEMORY, and ValueError or TypeError for an event that is not three numbers of 32 bits."""
+    that may not come, and its Fault. A field that an event of its kind does not have is not read, but is given, 0 say. Raises ITEMS,
+    BARRIERS, SENDERS or MEMORY; and ValueError or TypeError for an event that is not three whole numbers of 32 bits, or for such a
+    size."""
     place, rows = ctypes.c_size_t(0), _rows(events)
     count = ctypes.c_size_t(len(rows) // 3)
     rows.append(0)  # so that it has an address also where there is no event

@@ -111,7 +111,7 @@ def import_is_refused(error, text, library):
 
 
 def imports():
-    """A library is refused where it is imported that is not there, that has not each export of the headers, or whose seats want another
+    """A library is refused where it is imported that is not there, that lacks an export of the headers, or whose seats want another
     alignment."""
     named = wq._library._name
     for library, error in (f"{named}.none", OSError), ("libc.so.6", ImportError):
