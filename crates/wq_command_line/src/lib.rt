@@ -1,9 +1,9 @@
 //! The command line of `wqrun`: what its words ask for, or what is said in place of that.
 #![tactic(auto)]
 
-mod answer;
+mod notice;
 mod rows;
 mod task;
 
-pub use answer::Answer;
-pub use task::{Kind, Source, Task, task_of};
+pub use notice::Notice;
+pub use task::{Source, Task, TaskKind, task_of};

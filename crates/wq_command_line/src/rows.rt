@@ -1,12 +1,12 @@
 //! The subcommands, and what help says of them.
-use crate::task::Kind;
+use crate::task::TaskKind;
 use clap::{Arg, ArgAction, Command};
 use std::alloc::{AllocError, Global};
 
 /// A subcommand: its name, what it runs, what it does, what its file is, and what a text of it may hold.
 struct Row {
     name: &'static str,
-    kind: Kind,
+    kind: TaskKind,
     about: &'static str,
     file: &'static str,
     more: &'static str,
@@ -21,7 +21,7 @@ pub(crate) const HISTORY: &str = "history";
 const ROWS: [Row; 4] = [
     Row {
         name: "script",
-        kind: Kind::Script,
+        kind: TaskKind::Script,
         about: "Runs a script of commands and prints what they answer",
         file: "The path of a script: the lines 'wq 1' or 'wq 2', 'items N', 'senders N' and, if wanted, 'barriers N', then commands",
         more: "\
@@ -41,7 +41,7 @@ Example:
     },
     Row {
         name: "steps",
-        kind: Kind::Steps,
+        kind: TaskKind::Steps,
         about: "Replays a schedule of atomic steps and prints what each is answered",
         file: "The path of a schedule: the lines 'steps 1' or 'steps 2', 'items N', 'senders N' and, if wanted, 'barriers N', then steps",
         more: "\
@@ -59,7 +59,7 @@ Example:
     },
     Row {
         name: "live",
-        kind: Kind::Live,
+        kind: TaskKind::Live,
         about: "Runs queues by live threads and prints whether their books balance",
         file: "The path of a plan: a JSON object of four fields",
         more: "\
@@ -72,7 +72,7 @@ Example:
     },
     Row {
         name: "check",
-        kind: Kind::Check,
+        kind: TaskKind::Check,
         about: "Judges a recording of any ordered workqueue and prints what it found",
         file: "The path of a recording: a history, which begins with 'history 1', or a trace, with 'trace 1'",
         more: "\
@@ -125,8 +125,8 @@ fn command_of<'a>(alloc: Global, row: &Row) -> Result<Command<'a>, AllocError> {
         .after_help(row.more)
         .arg(file)?;
     match row.kind {
-        Kind::Check => command.arg(drained(alloc)),
-        Kind::Steps => command.arg(history(alloc)),
+        TaskKind::Check => command.arg(drained(alloc)),
+        TaskKind::Steps => command.arg(history(alloc)),
         _ => Ok(command),
     }
 }
@@ -153,12 +153,12 @@ pub(crate) fn command_line<'a>(alloc: Global) -> Result<Command<'a>, AllocError>
 }
 
 // What the subcommand of this name runs.
-pub(crate) fn kind_of(name: &str) -> Kind {
+pub(crate) fn kind_of(name: &str) -> TaskKind {
     for row in &ROWS {
         if row.name == name {
             return row.kind;
         }
     }
     // `clap` gives no other name than those of `ROWS`.
-    Kind::Script
+    TaskKind::Script
 }

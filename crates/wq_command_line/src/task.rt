@@ -1,16 +1,16 @@
 //! What the words of the command line ask for.
 ghost use Rattle.std.specs.Prelude.{◌≡◌, ◌≤◌, Ok, length, false};
-ghost use Rattle.wq_command_line.specs.declared.task.Kind.TheVariants.{Script};
+ghost use Rattle.wq_command_line.specs.declared.task.TaskKind.TheVariants.{Script};
 ghost use Rattle.wq_command_line.specs.declared.task.Source.TheVariants.{Input};
 
-use crate::answer::Answer;
+use crate::notice::Notice;
 use crate::rows::{DRAINED, HISTORY, command_line, kind_of};
 use clap::Error;
 use std::alloc::Global;
 
 /// What is to be done with the text, and so what it must be.
 #[derive(Clone, Copy)]
-pub enum Kind {
+pub enum TaskKind {
     /// A script, of commands.
     Script,
     /// A schedule, of single steps.
@@ -36,7 +36,7 @@ pub enum Source<'a> {
 #[derive(Clone, Copy)]
 pub struct Task<'a> {
     /// What is to be done with the text.
-    pub kind: Kind,
+    pub kind: TaskKind,
     /// Where it stands.
     pub source: Source<'a>,
     /// Of a recording: nothing may be left.
@@ -45,7 +45,7 @@ pub struct Task<'a> {
 
 // What no words ask for.
 const BARE: Task<'static> = Task {
-    kind: Kind::Script,
+    kind: TaskKind::Script,
     source: Source::Input,
     wants_drained: false,
 };
@@ -57,7 +57,7 @@ fn parse<'a>(alloc: Global, words: &'a [String]) -> Result<Task<'a>, Error> {
     if let Some((name, matches)) = matches.subcommand() {
         task.kind = kind_of(name);
         if matches.get_flag(HISTORY) {
-            task.kind = Kind::History;
+            task.kind = TaskKind::History;
         }
         task.wants_drained = matches.get_flag(DRAINED);
         if let Some(path) = matches.get_str("FILE") {
@@ -69,7 +69,7 @@ fn parse<'a>(alloc: Global, words: &'a [String]) -> Result<Task<'a>, Error> {
 
 /// What the words ask for, the program's own name first: a script from standard input where they name no text. Else what is
 /// said in place of running one.
-pub fn task_of<'a>(alloc: Global, words: &'a [String]) -> Result<Task<'a>, Answer>
+pub fn task_of<'a>(alloc: Global, words: &'a [String]) -> Result<Task<'a>, Notice>
     ensures bare { length words.now ≤ 1 → result ≡ Ok (record { kind = Script; source = Input; wants_drained = false }) }
 {
     if words.len() <= 1 {
@@ -77,6 +77,6 @@ pub fn task_of<'a>(alloc: Global, words: &'a [String]) -> Result<Task<'a>, Answe
     }
     match parse(alloc, words) {
         Ok(task) => Ok(task),
-        Err(error) => Err(Answer::of(alloc, &error)),
+        Err(error) => Err(Notice::of(alloc, &error)),
     }
 }

@@ -10,7 +10,7 @@ use std::io::{BufReader, Read, Write};
 use std::process::ExitCode;
 use std::sync::Wait;
 use std::thread::Threads;
-use wq_command_line::{Answer, Kind, Source, Task, task_of};
+use wq_command_line::{Notice, Source, Task, TaskKind, task_of};
 use wq_commands::{HistoryCommand, check_main, script_main, steps_main};
 use wq_pool_plan::live_main;
 use wq_subcommand::{Failure, WRONG_WORDS, end, subcommand_main};
@@ -36,11 +36,11 @@ fn run_text<T: Threads + Wait + Sync, R: Read + Drop, O: Write, E: Write>(
     faults: &mut E,
 ) -> u8 {
     match task.kind {
-        Kind::Script => script_main(alloc, reader, output, faults),
-        Kind::Steps => steps_main(alloc, reader, output, faults),
-        Kind::History => subcommand_main(&HistoryCommand, alloc, reader, output, faults),
-        Kind::Live => live_main(threads, alloc, reader, output, faults),
-        Kind::Check => match BufReader::new(alloc, reader) {
+        TaskKind::Script => script_main(alloc, reader, output, faults),
+        TaskKind::Steps => steps_main(alloc, reader, output, faults),
+        TaskKind::History => subcommand_main(&HistoryCommand, alloc, reader, output, faults),
+        TaskKind::Live => live_main(threads, alloc, reader, output, faults),
+        TaskKind::Check => match BufReader::new(alloc, reader) {
             Ok(reader) => check_main(alloc, reader, task.wants_drained, output, faults),
             Err(error) => fail(Failure::from(error), output, faults),
         },
@@ -48,14 +48,14 @@ fn run_text<T: Threads + Wait + Sync, R: Read + Drop, O: Write, E: Write>(
 }
 
 // Writes help and the version to the output, and says what is wrong with the words on `faults`, with status 2.
-fn say<O: Write, E: Write>(answer: Answer, output: &mut O, faults: &mut E) -> u8 {
-    match answer {
-        Answer::Help(text) => end(Ok::<_, Failure>(text), output, faults),
-        Answer::Wrong(text) => {
+fn say<O: Write, E: Write>(notice: Notice, output: &mut O, faults: &mut E) -> u8 {
+    match notice {
+        Notice::Help(text) => end(Ok::<_, Failure>(text), output, faults),
+        Notice::Wrong(text) => {
             let _ = faults.write_all(&text);
             WRONG_WORDS
         }
-        Answer::Memory => fail(Failure::Memory, output, faults),
+        Notice::Memory => fail(Failure::Memory, output, faults),
     }
 }
 
@@ -68,7 +68,7 @@ fn main(rt: HostRuntime) -> ExitCode {
     let status = match command_words(&rt) {
         Err(error) => fail(Failure::from(error), output, faults),
         Ok(words) => match task_of(alloc, &words) {
-            Err(answer) => say(answer, output, faults),
+            Err(notice) => say(notice, output, faults),
             Ok(task) => match task.source {
                 Source::Input => run_text(&rt, alloc, task, rt.stdin(), output, faults),
                 Source::File(path) => match File::open(&rt, path) {

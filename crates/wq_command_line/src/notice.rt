@@ -5,7 +5,7 @@ use std::alloc::Global;
 
 /// What is said in place of running a text.
 #[derive(Drop)]
-pub enum Answer {
+pub enum Notice {
     /// Help, or the version.
     Help(Vec<u8>),
     /// What is wrong with the words.
@@ -14,19 +14,19 @@ pub enum Answer {
     Memory,
 }
 
-impl Answer {
+impl Notice {
     // What an error of the command line says.
-    pub(crate) fn of(alloc: Global, error: &Error) -> Answer {
+    pub(crate) fn of(alloc: Global, error: &Error) -> Notice {
         if error.kind() == ErrorKind::OutOfMemory {
-            return Answer::Memory;
+            return Notice::Memory;
         }
         let mut text = String::new(alloc);
         if write!(text, "{error}").is_err() {
-            return Answer::Memory;
+            return Notice::Memory;
         }
         if error.use_stderr() {
-            return Answer::Wrong(text.into_bytes());
+            return Notice::Wrong(text.into_bytes());
         }
-        Answer::Help(text.into_bytes())
+        Notice::Help(text.into_bytes())
     }
 }
