@@ -1,5 +1,5 @@
 //! Checkers of recorded histories and traces: each cause, and what a report says.
-use crate::expect::{expect_same, expect_words};
+use crate::expect::{expect_each_words, expect_same};
 use std::alloc::Global;
 use std::process::Abort;
 use wq_check::EventError::{NoItem, NoSeat, NotAllowed};
@@ -335,25 +335,22 @@ const WORDS: &[(Cause, &str)] = &[
 
 #[test]
 fn words_of_causes_and_errors(rt: HostRuntime) {
-    for &(cause, words) in WORDS {
-        expect_words(&rt, rt.alloc(), &cause, words);
-    }
-    for &(error, words) in &[
+    let alloc = rt.alloc();
+    expect_each_words(&rt, alloc, WORDS);
+    let errors = [
         (NoSeat, "no seat of the queue"),
         (NoItem, "no number of the queue"),
         (NotAllowed(Cause::Next(7)), "not allowed: next 7"),
-    ] {
-        expect_words(&rt, rt.alloc(), &error, words);
-    }
-    for &(error, words) in &[
+    ];
+    expect_each_words(&rt, alloc, errors.as_slice());
+    let of_marks = [
         (MarkError::NoItem, "no item of the queue"),
         (
             MarkError::NotAllowed(Cause::Pending),
             "not allowed: pending",
         ),
-    ] {
-        expect_words(&rt, rt.alloc(), &error, words);
-    }
+    ];
+    expect_each_words(&rt, alloc, of_marks.as_slice());
 }
 
 /// Traces with what is wrong with their last mark.

@@ -17,3 +17,10 @@ pub(crate) fn expect_words<R: Abort, T: Display>(rt: &R, alloc: Global, of: &T, 
     let text = format!(in alloc; "{of}").expect(rt, "memory");
     expect_same(rt, text.as_str(), words);
 }
+
+/// Returns only where each of the values has its words.
+pub(crate) fn expect_each_words<R: Abort, T: Display>(rt: &R, alloc: Global, rows: &[(T, &str)]) {
+    for (value, words) in rows {
+        expect_words(rt, alloc, value, words);
+    }
+}

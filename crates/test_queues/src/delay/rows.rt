@@ -2,6 +2,7 @@
 use super::calls::{arm, delayed};
 use crate::expect::expect_same;
 use crate::seats::{QUEUED, WAKES, queue_once};
+use std::process::Abort;
 use wq_delay::Armed;
 use wq_live::{Answer, Sender};
 
@@ -11,6 +12,13 @@ fn is_pending(sender: &mut Sender, item: u32) -> Option<bool> {
         Some(sender.is_pending(item))
     } else {
         None
+    }
+}
+
+/// No item below this one is pending.
+fn expect_none_pending<R: Abort>(rt: &R, sender: &mut Sender, items: u32) {
+    for item in 0..items {
+        expect_same(rt, (item, is_pending(sender, item)), (item, Some(false)));
     }
 }
 
@@ -32,9 +40,7 @@ fn dissolved_table_gives_its_items_back(rt: HostRuntime) {
         expect_same(&rt, arm(&mut delay, item, 1), Some(Armed::OnTable));
     }
     let mut other = delay.dissolve();
-    for item in 0..4 {
-        expect_same(&rt, is_pending(&mut sender, item), Some(false));
-    }
+    expect_none_pending(&rt, &mut sender, 4);
     expect_same(&rt, queue_once(&mut other, 3), Some(WAKES));
     expect_same(&rt, queue_once(&mut sender, 0), Some(QUEUED));
 }

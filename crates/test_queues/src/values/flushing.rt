@@ -5,7 +5,7 @@ use crate::expect::expect_same;
 use crate::seats::{QUEUED, WAKES};
 use std::process::Abort;
 use std::sync::{Arc, Wait};
-use std::thread::{Threads, join, sleep};
+use std::thread::{join, sleep};
 use std::time::{Clock, Duration};
 use wq_live::Answer;
 use wq_values::{ValueOwner, ValueSender};

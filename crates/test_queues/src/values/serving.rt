@@ -46,16 +46,21 @@ fn queue_waking<R: Abort + Wait>(
     }
 }
 
-/// Queues the sender's own items in order, with a longer pause before each eighth, in which the worker comes to park.
+/// A pause in which the worker comes to park.
+fn pause_long() {
+    for _ in 0..20_000u32 {
+        spin_loop();
+    }
+}
+
+/// Queues the sender's own items in order, with a longer pause before each eighth.
 fn queue_own<R: Abort + Wait>(rt: &R, sender: &mut ValueSender<u64>, unparker: &Unparker)
     ensures { sender.new.known.queue ≡ sender.old.known.queue }
 {
     let from = sender.number().wrapping_mul(OWN);
     for item in from..from.wrapping_add(OWN) {
         if item % 8 == 0 {
-            for _ in 0..20_000u32 {
-                spin_loop();
-            }
+            pause_long();
         }
         queue_waking(rt, sender, item, unparker);
     }

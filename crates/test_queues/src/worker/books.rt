@@ -1,7 +1,7 @@
 //! Books of ledgers, and why they do not balance.
 ghost use Rattle.wq_ledger.specs.Book.{IsLedgerOf};
 
-use crate::expect::expect_same;
+use crate::expect::{expect_each_words, expect_same};
 use crate::seats::{QUEUED, WAKES, queue_item};
 use crate::worker::team::{Fixed, destroy, new_team};
 use wq_worker::{Book, Ledger, Totals, Unbalanced};
@@ -21,6 +21,16 @@ fn balance_some(
     let twice = book.balance([first, second, second].as_slice());
     let once = book.balance([first, second].as_slice());
     (missing, missing_first, twice, once)
+}
+
+#[test]
+fn words_of_faults(rt: HostRuntime) {
+    let faults = [
+        (Unbalanced::Missing(2), "sender 2 has no ledger"),
+        (Unbalanced::Twice(3), "sender 3 has more than one ledger"),
+        (Unbalanced::Saturated(4), "a count of sender 4 is saturated"),
+    ];
+    expect_each_words(&rt, rt.alloc(), faults.as_slice());
 }
 
 /// A sender without a ledger and one with two are named, the one with the lower number first, and else the counts balance.
