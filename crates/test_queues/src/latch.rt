@@ -4,7 +4,7 @@ use std::sync::atomic::Ordering::SeqCst;
 use std::thread::yield_now;
 
 /// So often a thread looks before it gives up.
-const LOOKS: u32 = 100_000_000;
+const LOOKS: u32 = 20_000_000;
 
 #[derive(Drop)]
 pub(crate) struct Latch {

@@ -82,13 +82,16 @@ fn queue_all<R: Abort>(
     queued
 }
 
-/// Executes what waits, for so many rounds, and appends what it was handed, in order.
-fn execute_for(
+/// Executes what comes until it has executed so many items, and appends what it was handed, in order. False where that is not all
+/// that it was handed, or where nothing comes for as long as the test has patience.
+fn execute_until<R: Clock>(
+    rt: &R,
     owner: &mut ValueOwner<Counted>,
-    rounds: u32,
+    count: usize,
     into: &mut Vec<(u32, Counted)>,
 ) -> bool {
-    for _ in 0..rounds {
+    let patience = Patience::begin(rt);
+    for _ in 0..u32::MAX {
         match execute_one(owner) {
             Some((number, Some(value))) => {
                 if into.push((number, value)).is_err() {
@@ -96,10 +99,18 @@ fn execute_for(
                 }
             }
             Some((_, None)) => return false,
-            None => {}
+            None => {
+                if patience.is_over(rt) {
+                    return false;
+                }
+                yield_now();
+            }
+        }
+        if into.len() >= count {
+            return true;
         }
     }
-    true
+    false
 }
 
 /// Each was handed its own parcel, and each half came in its sender's order.
@@ -174,8 +185,8 @@ fn queue_halves<R: Abort + Threads + Sync>(
     )
 }
 
-/// The two senders queue, beside the owner in a third thread. Each value is there as long as it is in the list of what was executed,
-/// and is dropped once, with it.
+/// The two senders queue, beside the owner in a third thread, which goes on until it has executed all. Each value is there as long
+/// as it is in the list of what was executed, and is dropped once, with it.
 #[test]
 fn two_threads_queue_values_in_their_order(rt: HostRuntime) {
     let Seats {
@@ -189,11 +200,10 @@ fn two_threads_queue_values_in_their_order(rt: HostRuntime) {
     let (queued, ran) = join(
         &rt,
         || queue_halves(&rt, &mut seats.0, &mut seats.1, 256, &shared, false),
-        || execute_for(&mut owner, 200_000, &mut executed),
+        || execute_until(&rt, &mut owner, 512, &mut executed),
     );
     expect_same(&rt, (queued, ran), ((256, 256), true));
-    assert!(rt; close(&mut owner).is_some());
-    assert!(rt; execute_for(&mut owner, 513, &mut executed));
+    expect_same(&rt, close(&mut owner), Some(0));
     assert!(rt; owner.done().is_some());
     expect_halves(&rt, executed.as_slice(), 256);
     expect_same(&rt, alive(&shared), 512);
