@@ -1,13 +1,13 @@
 //! The machine of steps: what it refuses, and what holds after each step of a schedule, whichever seat stops in it. The schedules
 //! are those of `schedules.rows` and `draining_schedules.rows` in `checks/rows`, which say what each step replies.
-use crate::expect::{expect_same, expect_words};
+use crate::expect::{expect_each_words, expect_same, expect_words};
 use std::process::Abort;
 use wq_core::Reply::Held;
 use wq_core::Step::{
     Back, Begin, Chain, Check, Close, Drain, End, Hold, Link, Look, Push, Rest, Resume, Take, Walk,
 };
 use wq_core::{Reply, Seat, Step, chain_and_batch, each_step_keeps_sound, first_push};
-use wq_machine::{Core, ReplayError, StepError, replay, replay_on};
+use wq_machine::{Core, Keeper, ReplayError, StepError, replay, replay_on};
 use wq_meaning::RunError;
 use wq_text::{ParseError, Schedule, parse_steps};
 use wq_words::{Event, Head, Layout, Why, check_history};
@@ -339,6 +339,53 @@ fn drains(rt: HostRuntime) {
     }
 }
 
+/// Schedules with who keeps which number at their ends: what was taken and what was pushed since, what a sender holds, and what
+/// has begun; in a drain what was chained, and what came back. Behind the last number, that of the stop item, there is none.
+const KEPT: &[(&str, &[(u32, Option<Keeper>)])] = &[
+    (
+        "steps 1\nitems 4\nsenders 2\n0 hold 0\n0 look\n0 link 0\n0 push 0\n0 hold 1\n0 look\n0 link 1\n0 push 1\no take\n\
+         0 hold 2\n1 hold 3\n1 look\n1 link 3\n1 push 3\no walk\no walk\no begin\n",
+        &[
+            (0, Some(Keeper::Home)),
+            (1, Some(Keeper::Owner)),
+            (2, Some(Keeper::Sender(0))),
+            (3, Some(Keeper::List)),
+            (4, Some(Keeper::Home)),
+            (5, Some(Keeper::Home)),
+            (6, None),
+        ],
+    ),
+    (
+        "steps 2\nitems 4\nsenders 2\n0 hold 0\n0 look\n0 link 0\n0 push 0\n0 hold 1\n0 look\n0 link 1\n0 push 1\n1 hold 2\n\
+         o drain\no walk\no walk\no begin\n1 look\n1 back 2 draining\no chain 3\n1 hold stop\n",
+        &[
+            (0, Some(Keeper::Home)),
+            (1, Some(Keeper::Owner)),
+            (2, Some(Keeper::Home)),
+            (3, Some(Keeper::Owner)),
+            (5, Some(Keeper::Sender(1))),
+            (6, None),
+        ],
+    ),
+];
+
+/// At the end of a schedule each of these numbers has its keeper.
+fn check_keepers<R: Abort + AllocGlobal>(rt: &R, text: &str, keepers: &[(u32, Option<Keeper>)]) {
+    let schedule = schedule(rt, text);
+    let core = replay(rt.alloc(), *schedule.layout(), schedule.turns()).expect(rt, "a replay");
+    for &(number, keeper) in keepers {
+        let kept = (text, number, core.keeper(number));
+        expect_same(rt, kept, (text, number, keeper));
+    }
+}
+
+#[test]
+fn keepers(rt: HostRuntime) {
+    for &(text, keepers) in KEPT {
+        check_keepers(&rt, text, keepers);
+    }
+}
+
 /// What a caller has in hand of a core, whatever was done to it.
 #[test]
 fn laws(rt: HostRuntime) {
@@ -352,14 +399,13 @@ fn laws(rt: HostRuntime) {
 #[test]
 fn words_of_errors(rt: HostRuntime) {
     let alloc = rt.alloc();
-    for &(error, words) in &[
+    let errors = [
         (StepError::NoSeat, "no step of a seat of the queue"),
         (StepError::NoItem, "no number of the queue"),
         (StepError::NotEnabled, "not enabled"),
         (StepError::Memory, "memory"),
-    ] {
-        expect_words(&rt, alloc, &error, words);
-    }
+    ];
+    expect_each_words(&rt, alloc, errors.as_slice());
     let error = ReplayError {
         at: 2,
         why: StepError::NotEnabled,

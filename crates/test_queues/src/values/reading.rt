@@ -101,10 +101,32 @@ fn is_shut<V: Drop>(owner: &ValueOwner<V>) -> bool
     owner.is_draining()
 }
 
+/// The queue is open, nothing that was taken waits, and nothing runs.
+#[tactic(auto, using(wq_calls::proofs::Reading::reading))]
+fn may_rest<V: Drop>(owner: &ValueOwner<V>) -> bool
+    ensures open { IsTrue result → ¬ IsShut owner.now.known.seen }
+    ensures empty { IsTrue result → batch owner.now.known.seen ≡ [] }
+    ensures idle { IsTrue result → ¬ IsRunning owner.now.known.seen }
+{
+    if owner.running().is_some() {
+        return false;
+    }
+    may_take(owner)
+}
+
 /// Takes what was pushed, where that is allowed, and answers how many were.
 pub(crate) fn take<V: Drop>(owner: &mut ValueOwner<V>) -> Option<u32> {
     if may_take(owner) {
         Some(owner.take())
+    } else {
+        None
+    }
+}
+
+/// Says that the queue rests, where that may be said, and answers whether it rests by it.
+pub(crate) fn rest<V: Drop>(owner: &mut ValueOwner<V>) -> Option<bool> {
+    if may_rest(owner) {
+        Some(owner.rest())
     } else {
         None
     }

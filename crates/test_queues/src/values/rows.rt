@@ -1,6 +1,6 @@
 //! A queue of strings call by call.
 use super::reading::{
-    begin, chain, close, drain, end, execute_one, queue_once, resume, seats, take,
+    begin, chain, close, drain, end, execute_one, queue_once, rest, resume, seats, take,
 };
 use crate::expect::expect_same;
 use crate::seats::{FIRST, QUEUED, WAKES};
@@ -22,7 +22,10 @@ enum Step {
     /// The next number begins, and is handed these words.
     Begin(u32, &'static str),
     End(u32),
-    Done,
+    /// Whether the queue rests by it.
+    Rest(bool),
+    /// Whether all is done.
+    Done(bool),
 }
 
 /// A string of its own.
@@ -67,7 +70,8 @@ fn step_owner<R: Abort>(rt: &R, alloc: Global, owner: &mut ValueOwner<String>, s
         Step::Resume => expect_same(rt, resume(owner), true),
         Step::Begin(number, words) => begins_with(rt, owner, number, words),
         Step::End(number) => expect_same(rt, end(owner), Some(number)),
-        Step::Done => expect_same(rt, owner.done().is_some(), true),
+        Step::Rest(rests) => expect_same(rt, rest(owner), Some(rests)),
+        Step::Done(is_done) => expect_same(rt, owner.done().is_some(), is_done),
         Step::Queue(..) => {}
     }
 }
@@ -94,9 +98,11 @@ const AGAIN: &[Step] = &[
     Step::Close(1),
     Step::Queue(1, "c", Answer::Closed),
     Step::End(0),
+    Step::Done(false),
     Step::Begin(0, "b"),
+    Step::Done(false),
     Step::End(0),
-    Step::Done,
+    Step::Done(true),
 ];
 
 /// What is pending, and what is queued behind a close, comes back; an item that runs may be queued again.
@@ -139,6 +145,29 @@ const BEHIND: &[Step] = &[
 #[test]
 fn values_keep_their_order_behind_a_batch(rt: HostRuntime) {
     play(&rt, rt.alloc(), 8, BEHIND);
+}
+
+const RESTING: &[Step] = &[
+    Step::Rest(false),
+    Step::Queue(1, "one", WAKES),
+    Step::Rest(false),
+    Step::Take(1),
+    Step::Begin(1, "one"),
+    Step::End(1),
+    Step::Done(false),
+    Step::Rest(true),
+    Step::Rest(false),
+    Step::Queue(0, "zero", WAKES),
+    Step::Take(1),
+    Step::Begin(0, "zero"),
+    Step::End(0),
+    Step::Queue(1, "again", FIRST),
+];
+
+/// A new queue rests, and one that rests does not rest again. A push stands in the way of a rest, and the first behind one wakes.
+#[test]
+fn queue_of_values_rests_once(rt: HostRuntime) {
+    play(&rt, rt.alloc(), 2, RESTING);
 }
 
 /// A barrier and the stop item bring nothing.
