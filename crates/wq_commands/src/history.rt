@@ -1,6 +1,5 @@
 //! `wqrun steps --history`: a schedule's bytes in, its history as a recording out.
-ghost use Rattle.std.specs.Prelude.{◌≡◌, IfOk, IfErr};
-ghost use Rattle.wq_subcommand.specs.Ending.{LacksOutput};
+ghost use Rattle.std.specs.Prelude.{◌≡◌};
 ghost use Rattle.wq_commands.specs.ScheduleReport.{Records, HasNoOutput};
 
 use crate::script::TEXT_BYTES;

@@ -1,9 +1,9 @@
 //! `wqrun script`: a script's bytes in, its report's bytes out.
-ghost use Rattle.std.specs.Prelude.{◌≡◌, ◌≢◌, ◌⊎◌, IfOk, IfErr, IfSome, take};
+ghost use Rattle.std.specs.Prelude.{◌≡◌, ◌≢◌, ◌⊎◌, IfSome, take};
 ghost use Rattle.wq_text.specs.declared.fault.ScriptError.{ScriptError};
 ghost use Rattle.wq_subcommand.specs.declared.failure.Failure.{Failure as Cause};
 ghost use Rattle.wq_subcommand.specs.Failure.{status_of};
-ghost use Rattle.wq_subcommand.specs.Ending.{Writes, Fails, IsUntouched, LacksOutput};
+ghost use Rattle.wq_subcommand.specs.Ending.{Writes, Fails, IsUntouched};
 ghost use Rattle.wq_commands.specs.Report.{Reports, HasNoReport};
 
 use std::alloc::Global;

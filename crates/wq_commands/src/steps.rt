@@ -1,9 +1,9 @@
 //! `wqrun steps`: a schedule's bytes in, its output's bytes out.
-ghost use Rattle.std.specs.Prelude.{◌≡◌, ◌≢◌, ◌⊎◌, IfOk, IfErr, IfSome, take};
+ghost use Rattle.std.specs.Prelude.{◌≡◌, ◌≢◌, ◌⊎◌, IfSome, take};
 ghost use Rattle.wq_text.specs.declared.fault.ScriptError.{ScriptError};
 ghost use Rattle.wq_subcommand.specs.declared.failure.Failure.{Failure as Cause};
 ghost use Rattle.wq_subcommand.specs.Failure.{status_of};
-ghost use Rattle.wq_subcommand.specs.Ending.{Writes, Fails, IsUntouched, LacksOutput};
+ghost use Rattle.wq_subcommand.specs.Ending.{Writes, Fails, IsUntouched};
 ghost use Rattle.wq_commands.specs.ScheduleReport.{Replays, HasNoOutput};
 
 use crate::script::TEXT_BYTES;
