@@ -28,7 +28,7 @@ pub enum RaceError {
     #[error("memory")]
     Memory,
     /// A thread could not be made.
-    #[error("memory")]
+    #[error("no thread")]
     Thread,
 }
 
