@@ -1,5 +1,5 @@
 //! What a race did, and whether its book balances.
-ghost use Rattle.std.specs.Prelude.{◌≡◌, ◌≢◌, ◌<◌, [], ◌∷◌, ◌++◌, map, All, OnOk, OnErr, IfOk, MatchBool, string_bytes};
+ghost use Rattle.std.specs.Prelude.{◌≡◌, ◌≢◌, [], ◌∷◌, ◌++◌, map, All, OnOk, OnErr, IfOk, MatchBool, string_bytes};
 ghost use Rattle.wq_words.specs.History.{IsRunning};
 ghost use Rattle.wq_words.specs.Legal.{IsLegal};
 ghost use Rattle.wq_words.specs.Seen.{owner_seat, own};
