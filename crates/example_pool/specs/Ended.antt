@@ -21,7 +21,7 @@ use Rattle.example_pool.specs.declared.queueing.Line.{Line}
 use Rattle.example_pool.specs.declared.queueing.Told.{Told}
 use Rattle.example_pool.specs.declared.pool.Ended.{Ended}
 
--- the new senders 0 and 1 of one queue, which has four items, with callers of this pool and a number of one of its queues
+-- the new senders 0 and 1 of one queue, which has four items at least, with callers of this pool and a number of one of its queues
 pub record IsNewLine (pool : PoolState (WorkerState Runs)) (line : Line) : Type 0 where
   pub items : 4 ≤ line.first.sender.layout.items
   pub first_is : line.first.sender ≡ new_sender line.first.sender.queue line.first.sender.layout 0

@@ -167,7 +167,8 @@ fn queue_and_execute<R: Threads + Wait + Sync>(
     }
 }
 
-/// The same on a new queue, with so many items of each of the two senders. The only error is want of memory.
+/// The same on a new queue, with so many items of each of the two senders. The only error is want of memory for the queue: a sender
+/// that can have none for a message queues no further one, and the run is Ok.
 pub fn run<R: Threads + Wait + Sync>(
     rt: &R,
     alloc: Global,
