@@ -6,4 +6,4 @@ mod laws;
 
 pub use alias::{ValuePool, ValuePoolFault, ValueServed, ValueTurn, ValueWorked};
 pub use laws::{brought_goes_on, nothing_is_queued};
-pub use wq_pool::{AnnounceError, Caller, Gate, NoGate};
+pub use wq_pool::{AnnounceError, Caller, Gate, NoGate, PoolError};

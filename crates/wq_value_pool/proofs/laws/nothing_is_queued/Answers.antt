@@ -1,4 +1,4 @@
-use Rattle.std.proofs.Common.{◌≡◌, ℕ, List, [], sym, ap, ◌∙◌}
+use Rattle.std.proofs.Common.{◌≡◌, sym, ap, ◌∙◌}
 use Rattle.wq_worker.proofs.Silent.{none_along}
 use Rattle.wq_value_worker.specs.Deals.{DealsInStep}
 use Rattle.wq_value_worker.specs.Returned.{MayLeave, GivesBack, numbers_in}
