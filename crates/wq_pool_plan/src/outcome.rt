@@ -25,6 +25,7 @@ pub(crate) fn finish<R: Wait>(rt: &R, mut pool: Pool<Idle>) -> Result<Vec<(Idle,
         match pool.finish(u32::MAX) {
             Ok(finished) => return Ok(finished),
             Err(PoolFault::Memory { .. }) => return Err(RaceError::Memory),
+            // Out does not come: all threads have ended, and none of them drops a turn.
             Err(PoolFault::Out { pool: same, .. } | PoolFault::Unfinished { pool: same, .. }) => {
                 pool = same;
             }

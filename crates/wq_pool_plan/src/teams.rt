@@ -1,5 +1,5 @@
 //! The seats of a plan's queues.
-ghost use Rattle.std.specs.Prelude.{◌≡◌, ◌+◌, ◌<◌, [], length, All, OnOk, IfOk};
+ghost use Rattle.std.specs.Prelude.{◌≡◌, ◌+◌, [], length, All, OnOk, IfOk};
 ghost use Rattle.wq_race.specs.Team.{IsNewTeam};
 ghost use Rattle.wq_pool_plan.specs.Teams.{AreDealt, AreTurned, AreTeams};
 
@@ -12,6 +12,7 @@ use wq_race::{Idle, Team};
 /// A row of senders: those of one number, by queue, until their threads have ended, and in a `Raced` those of one queue, by number.
 #[derive(Drop)]
 pub struct Group {
+    /// The senders, in that order.
     pub senders: Vec<Sender>,
 }
 
