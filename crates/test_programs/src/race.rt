@@ -11,7 +11,7 @@ use std::time::{Duration, Instant};
 use wq_live::Sender;
 use wq_plan::Plan;
 use wq_pool_plan::{Raced, run_teams};
-use wq_race::{Serving, Team, queue_all, queue_item, run_team, stop};
+use wq_race::{RaceError, Serving, Team, queue_all, queue_item, run_team, stop};
 
 /// How often it is looked whether the worker has begun an item.
 const LOOKS: u32 = 20_000_000;
@@ -29,6 +29,18 @@ fn team_of<R: Abort>(rt: &R, alloc: Global, plan: Plan) -> Team
     match Team::new(alloc, plan) {
         Ok(team) => team,
         Err(error) => panic!(rt; "{error}"),
+    }
+}
+
+/// Want of memory and want of a thread have words of their own.
+#[test]
+fn words_of_errors(rt: HostRuntime) {
+    for (error, words) in [
+        (RaceError::Memory, "memory"),
+        (RaceError::Thread, "no thread"),
+    ] {
+        let said = format!(in rt.alloc(); "{error}").expect(&rt, "memory");
+        expect_same(&rt, said.as_str(), words);
     }
 }
 

@@ -1,4 +1,4 @@
-//! What a run of a pool serves while all places of the ready queue are taken.
+//! What a run of a pool serves, and how long a wake waits, while all places of the ready queue are taken.
 use crate::expect::expect_same;
 use crate::pool::serving::{Two, new_two};
 use crate::pool::team::{
@@ -10,8 +10,8 @@ use std::process::Abort;
 use std::sync::Wait;
 use std::sync::atomic::AtomicU64;
 use std::sync::atomic::Ordering::SeqCst;
-use std::thread::{Threads, yield_now};
-use wq_live::Sender;
+use std::thread::{Threads, join, yield_now};
+use wq_live::{Answer, Sender};
 use wq_pool::{Gate, NoGate, Served};
 
 /// So often it is looked what the other thread has done.
@@ -19,6 +19,12 @@ const LOOKS: u32 = 20_000_000;
 
 /// So often a run meets another thread that takes each place.
 const CROWDED_ROUNDS: u32 = 50;
+
+/// So often at most a thread announces a queue while another is to be served: some seconds.
+const ANNOUNCEMENTS: u32 = 400_000_000;
+
+/// So often a thread yields to one that waits for a place.
+const YIELDS: u32 = 1000;
 
 /// Whether the other thread came, within so many looks.
 fn has_come(flag: &AtomicU64) -> bool {
@@ -132,14 +138,15 @@ impl Gate for Second {
     }
 }
 
-/// Announces the first queue over and over, until an item of the second has ended.
+/// Announces the first queue over and over, until an item of the second has ended. The test fails where none does meanwhile.
 fn announce_on<R: Abort + Wait>(rt: &R, guest: &mut Guest<'_>, second: &Second) {
-    for _ in 0..LOOKS {
+    for _ in 0..ANNOUNCEMENTS {
         if second.ended.load(SeqCst) > 0 {
             return;
         }
         let _ = guest.announce(rt, 0);
     }
+    panic!(rt; "no item of the second queue has ended")
 }
 
 /// One worker runs the pool, of which both queues are announced, while another thread takes each place that gets free.
@@ -151,10 +158,9 @@ fn run_crowded<R: Abort + Threads + Wait + Sync>(rt: &R, worker: Guest<'_>, mut 
         ended: AtomicU64::new(0),
     };
     run_beside(rt, worker, &second, || announce_on(rt, &mut guest, &second));
-    expect_same(rt, second.ended.load(SeqCst), 1);
 }
 
-/// The same where others announce all the time, and take the room that was made for it.
+/// The same where others announce all the time, and take the room that was made for it: it gives way while they do.
 #[test]
 fn restless_queue_gives_way_to_others_places(rt: HostRuntime) {
     for _round in 0..CROWDED_ROUNDS {
@@ -261,4 +267,74 @@ fn run_announces_what_it_leaves_where_no_place_is_free(rt: HostRuntime) {
     let served = run_last(&rt, worker, Guest::new(&pool, caller), &mut one, &mut two);
     expect_same(&rt, served, 3);
     finish_all(&rt, pool, 0, 3);
+}
+
+/// Whether one who wakes a queue has come to that, and is through with it.
+#[derive(Drop)]
+struct Waking {
+    begun: AtomicU64,
+    ended: AtomicU64,
+}
+
+/// Queues an item, which wakes the queue.
+fn queue_and_wake<R: Abort + Wait>(
+    rt: &R,
+    guest: &mut Guest<'_>,
+    sender: &mut Sender,
+    waking: &Waking,
+) {
+    let answer = queue_item(rt, sender, 0);
+    assert!(rt; matches!(answer, Answer::Queued { wakes: true, .. }));
+    waking.begun.store(1, SeqCst);
+    guest.wake(rt, 0, answer);
+    waking.ended.store(1, SeqCst);
+}
+
+/// Picks a queue, works at it to its end and puts it back.
+fn serve_next<R: Abort + Wait>(rt: &R, guest: &mut Guest<'_>) {
+    let turn = guest.pool.pick(rt, &mut guest.caller).expect(rt, "a turn");
+    let worked = work(rt, turn, 9, &NoGate);
+    guest.pool.put_back(&mut guest.caller, worked);
+}
+
+/// Once the other has waited for a place, the queue that has it is served, and then the one that the other announced.
+fn serve_before_and_after<R: Abort + Wait>(rt: &R, guest: &mut Guest<'_>, waking: &Waking) {
+    assert!(rt; has_come(&waking.begun));
+    for _ in 0..YIELDS {
+        yield_now();
+    }
+    expect_same(rt, waking.ended.load(SeqCst), 0);
+    serve_next(rt, guest);
+    assert!(rt; has_come(&waking.ended));
+    serve_next(rt, guest);
+}
+
+/// The only queue of the pool waits already while another thread wakes it.
+fn wake_beside<R: Abort + Threads + Wait + Sync>(
+    rt: &R,
+    mut guest: Guest<'_>,
+    mut other: Guest<'_>,
+    sender: &mut Sender,
+) {
+    assert!(rt; guest.announce(rt, 0));
+    let waking = Waking {
+        begun: AtomicU64::new(0),
+        ended: AtomicU64::new(0),
+    };
+    join(
+        rt,
+        || queue_and_wake(rt, &mut other, sender, &waking),
+        || serve_before_and_after(rt, &mut guest, &waking),
+    );
+}
+
+/// A wake waits while all places are taken, and takes the first that gets free.
+#[test]
+fn wake_waits_for_a_place(rt: HostRuntime) {
+    let (queue, mut sender) = empty(&rt, rt.alloc(), 1, Logging::new());
+    let queues = Vec::from_array(rt.alloc(), [queue]).expect(&rt, "memory");
+    let (pool, caller, other) = new_pool_with_worker(&rt, rt.alloc(), queues);
+    let guest = Guest::new(&pool, caller);
+    wake_beside(&rt, guest, Guest::new(&pool, other), &mut sender);
+    finish_all(&rt, pool, 0, 1);
 }
