@@ -90,7 +90,7 @@ fn a_queueing_wakes(rt: HostRuntime) {
     assert!(rt; elapsed < Duration::from_secs(20));
 }
 
-/// Whether the item of this number, which was queued, has begun, within so many looks.
+/// Whether item 0, which was queued, has begun, within so many looks.
 fn has_begun<R: Abort>(rt: &R, program: &mut Sender, looks: u32) -> bool {
     for _ in 0..looks {
         assert!(rt; 0 < program.layout().items);

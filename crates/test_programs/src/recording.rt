@@ -88,14 +88,19 @@ fn kind_of<R: Abort>(rt: &R, alloc: Global, reader: Failing<'_>) -> Option<Error
     }
 }
 
+/// A reader fails behind these bytes, with each of two errors.
+fn fail_behind<R: Abort>(rt: &R, alloc: Global, rest: &[u8]) {
+    for cause in [ErrorKind::BrokenPipe, ErrorKind::TimedOut] {
+        let reader = Failing { rest, cause };
+        expect_same(rt, kind_of(rt, alloc, reader), Some(cause));
+    }
+}
+
 /// Of a reader that fails at once, within a line, and behind one.
 #[test]
 fn readers_error_comes_back(rt: HostRuntime) {
     let texts: &[&[u8]] = &[b"", b"trace", b"trace 1\nitems 2\n"];
     for rest in texts {
-        for cause in [ErrorKind::BrokenPipe, ErrorKind::TimedOut] {
-            let reader = Failing { rest, cause };
-            expect_same(&rt, kind_of(&rt, rt.alloc(), reader), Some(cause));
-        }
+        fail_behind(&rt, rt.alloc(), rest);
     }
 }

@@ -81,6 +81,21 @@ fn drained_queue_is_served(rt: HostRuntime) {
     expect_same(&rt, ran.order.as_slice(), [103, 1, 3, 2, 0, 1].as_slice());
 }
 
+/// A destroy comes to its limit, and gives the worker back with the queue closed.
+fn destroy_in_vain<R: Abort>(
+    rt: &R,
+    worker: Worker<Logging>,
+    sender: &mut Sender,
+) -> Worker<Logging> {
+    let Err(unfinished) = worker.destroy(5) else {
+        panic!(rt; "a drain that ended")
+    };
+    expect_same(rt, unfinished.left, 1);
+    assert!(rt; unfinished.worker.is_closed());
+    expect_same(rt, queue_item(rt, sender, 2), Answer::Closed);
+    unfinished.worker
+}
+
 /// A worker whose drain never ends, since what it runs asks for itself, is not handed over, and no call waits for its end. A
 /// destroy gives it back again and again, with the queue closed.
 #[test]
@@ -92,13 +107,6 @@ fn endless_drain_is_given_back(rt: HostRuntime) {
         assert!(rt; worker.is_draining());
         expect_same(&rt, queue_item(&rt, &mut sender, 2), Answer::Draining);
     }
-    for _ in 0..2u32 {
-        let Err(unfinished) = worker.destroy(5) else {
-            panic!(rt; "a drain that ended")
-        };
-        expect_same(&rt, unfinished.left, 1);
-        worker = unfinished.worker;
-        assert!(rt; worker.is_closed());
-        expect_same(&rt, queue_item(&rt, &mut sender, 2), Answer::Closed);
-    }
+    let worker = destroy_in_vain(&rt, worker, &mut sender);
+    destroy_in_vain(&rt, worker, &mut sender);
 }
