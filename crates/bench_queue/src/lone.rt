@@ -10,7 +10,7 @@ use std::alloc::Global;
 use std::hint::spin_loop;
 use std::sync::Arc;
 use std::sync::atomic::{AtomicU64, Ordering};
-use std::thread::join_mut;
+use std::thread::{Scope, scope, scope_env};
 use std::time::{Duration, Instant};
 use wq_live::{Answer, Sender};
 use wq_words::Layout;
@@ -89,26 +89,26 @@ fn pair(alloc: Global, unparker: Unparker) -> Result<(Worker<Runs>, Ringer), Ref
     Ok((worker, ringer))
 }
 
-/// The times of all rounds, in nanoseconds, while the worker serves beside.
-fn ring_beside<R: Host>(
-    rt: &R,
-    worker: &mut Worker<Runs>,
-    parker: &mut Parker,
-    ringer: &mut Ringer,
+/// The times of all rounds, in nanoseconds, while the worker serves in a thread of its own. Without that thread no item would run, so
+/// none is queued.
+fn ring_beside<'s, E, R: Host>(
+    scope: &Scope<'s, E>,
+    rt: &'s R,
+    mut worker: Worker<Runs>,
+    parker: Parker,
+    mut ringer: Ringer,
     rounds: u32,
     gap: Duration,
     pace: Pace,
 ) -> Result<Vec<u128>, Refusal> {
-    join_mut(
-        rt,
-        &mut move || serve(rt, worker, parker, pace),
-        &mut move || {
-            let times = ringer.ring_often(rt, rounds, gap);
-            ringer.stop();
-            times
-        },
-    )
-    .1
+    let serving = scope
+        .spawn(move || serve(rt, &mut worker, &parker, pace))
+        .ok()
+        .ok_or(Refusal::NoThread)?;
+    let times = ringer.ring_often(rt, rounds, gap);
+    ringer.stop();
+    serving.join(rt);
+    times
 }
 
 /// The times of all rounds, in nanoseconds, from the least on.
@@ -118,9 +118,11 @@ pub fn measure<R: Host>(
     gap: Duration,
     pace: Pace,
 ) -> Result<Vec<u128>, Refusal> {
-    let mut parker = Parker::new(rt.alloc())?;
-    let (mut worker, mut ringer) = pair(rt.alloc(), parker.unparker().clone()?)?;
-    let mut times = ring_beside(rt, &mut worker, &mut parker, &mut ringer, rounds, gap, pace)?;
+    let parker = Parker::new(rt.alloc())?;
+    let (worker, ringer) = pair(rt.alloc(), parker.unparker().clone()?)?;
+    let mut times = scope(scope_env(), rt, |scope| -> Result<Vec<u128>, Refusal> {
+        ring_beside(scope, rt, worker, parker, ringer, rounds, gap, pace)
+    })?;
     times.sort_unstable();
     Ok(times)
 }

@@ -12,7 +12,7 @@ use in_order::{InOrder, SLICE};
 use std::alloc::{AllocError, Global};
 use std::sync::Wait;
 use std::sync::atomic::AtomicU64;
-use std::thread::{Threads, for_each_mut, join_mut};
+use std::thread::{JoinHandle, Scope, Threads, for_each_mut, scope, scope_env};
 use wq_live::Sender;
 use wq_pool::{Caller, NoGate, Pool, Served};
 use wq_words::{Layout, LayoutError};
@@ -136,24 +136,59 @@ fn feed<R: Threads + Wait + Sync>(rt: &R, feeders: &mut [Feeder]) {
     );
 }
 
-/// The callers serve while the feeders queue, until each queue has run its stop item.
-fn serve_and_feed<R: Threads + Wait + Sync>(
+/// A thread in which the pool runs.
+fn start_workers<'s, E, R: Threads + Wait + Sync>(
+    scope: &Scope<'s, E>,
+    rt: &'s R,
+    pool: &'s Pool<InOrder>,
+    mut workers: Vec<Caller>,
+) -> Result<JoinHandle<()>, Refusal>
+    requires { All (IsCallerOf pool.now.ready) workers.items }
+{
+    scope
+        .spawn(
+            move ||
+                requires { All (IsCallerOf pool.now.ready) workers.items }
+            {
+                let _ = pool.run(rt, &mut workers, &NoGate);
+            },
+        )
+        .map_err(|_| Refusal::NoThread)
+}
+
+/// The callers serve while the feeders queue, until each queue has run its stop item. Without a thread for the callers an item that is
+/// pending would be so for ever, so none is queued.
+fn serve_and_feed<'s, E, R: Threads + Wait + Sync>(
+    scope: &Scope<'s, E>,
+    rt: &'s R,
+    pool: &'s Pool<InOrder>,
+    workers: Vec<Caller>,
+    feeders: &mut [Feeder],
+) -> Result<(), Refusal>
+    requires { All (IsCallerOf pool.now.ready) workers.items }
+{
+    let serving = start_workers(scope, rt, pool, workers)?;
+    feed(rt, feeders);
+    serving.join(rt);
+    Ok(())
+}
+
+/// The threads of the callers and of the feeders, in a scope of their own.
+fn run_scope<R: Threads + Wait + Sync>(
     rt: &R,
     pool: &Pool<InOrder>,
-    workers: &mut [Caller],
+    workers: Vec<Caller>,
     feeders: &mut [Feeder],
-)
-    requires { All (IsCallerOf pool.now.ready) workers.old }
+) -> Result<(), Refusal>
+    requires { All (IsCallerOf pool.now.ready) workers.items }
 {
-    join_mut(
+    scope(
+        scope_env(),
         rt,
-        &mut ||
-            requires { All (IsCallerOf pool.now.ready) workers.now }
-        {
-            let _ = pool.run(rt, workers, &NoGate);
-        },
-        &mut || feed(rt, feeders),
-    );
+        |scope| -> Result<(), Refusal>
+            requires { All (IsCallerOf pool.now.ready) workers.items }
+        { serve_and_feed(scope, rt, pool, workers, feeders) },
+    )
 }
 
 /// Serves the pool until its queues have run their stop items, and answers how many announcements all feeders made. A queue is
@@ -166,12 +201,12 @@ fn serve<R: Threads + Wait + Sync>(
     mut callers: Vec<Caller>,
     seats: Vec<Vec<Sender>>,
     load: Load,
-) -> Result<u64, AllocError>
+) -> Result<u64, Refusal>
     requires { All (IsCallerOf pool.now.ready) callers.items }
 {
     let feeding = AtomicU64::new(u64::from(load.senders));
     let mut feeders = feeders(alloc, pool, &mut callers, seats, &feeding, load)?;
-    serve_and_feed(rt, pool, callers.as_mut_slice(), feeders.as_mut_slice());
+    run_scope(rt, pool, callers, feeders.as_mut_slice())?;
     let mut announced = 0u64;
     for feeder in &feeders {
         announced = announced.saturating_add(feeder.announced());
