@@ -10,8 +10,9 @@
 //! percentile of the time until it ran. `bench_queue delays ITEMS ROUNDS` measures a delay table; it prints what an arming, a move, a
 //! cancel and letting go took an item. `bench_queue large ITEMS` goes over so many items by each call that does so, and prints a line for
 //! each: what it took in all, and how many bytes of memory were resident more after it. `bench_queue values BYTES SENDERS SLICE TOTAL`
-//! is the first over items that bring a value of 8 or of 64 bytes, which the owner is handed and reads. `bench_queue events N` tells a
-//! checker of recordings so many events, `bench_queue marks N` one of traces so many marks; it prints `events N nanos T`, or `marks`.
+//! is the first over items that bring a value of 8 or of 64 bytes, which the owner is handed and reads; it prints `sum V` besides,
+//! what the values came to. `bench_queue events N` tells a checker of recordings so many events, `bench_queue marks N` one of traces
+//! so many marks; it prints `events N nanos T`, or `marks`.
 //!
 //! `bench_queue pool QUEUES WORKERS SENDERS TOTAL` starts so many workers that serve so many queues, and so many senders that queue
 //! on all of them in turn, and announce a queue where they were answered `wakes`. It prints `items N nanos T picks K strays S`, of
@@ -71,15 +72,15 @@ fn show_owner<R: Host>(rt: &R, mut load: Load) -> Result<(), Refusal> {
     Ok(())
 }
 
-/// The same of items that bring a value.
+/// The same of items that bring a value, and what the values came to that were read.
 fn show_values<R: Host>(rt: &R, width: Width, mut load: Load) -> Result<(), Refusal> {
     load.spins = Spins::measured(rt)?;
     let start = Instant::now(rt)?;
     let counts = values::run(rt, width, load)?;
     let nanos = start.elapsed(rt)?.as_nanos();
     println!(rt;
-        "items {} nanos {nanos} takes {} least {}",
-        counts.items, counts.takes, counts.least
+        "items {} nanos {nanos} takes {} least {} sum {}",
+        counts.items, counts.takes, counts.least, counts.sum
     )?;
     Ok(())
 }
@@ -173,12 +174,12 @@ fn measure<R: Host>(rt: &R, plan: Plan) -> Result<(), Refusal> {
     }
 }
 
-/// Measures what the words ask for, at the pace that the first one names.
+/// Measures what the words ask for, at the pace that the first one names: only what has such a pace.
 fn obey<R: Host>(rt: &R, words: &[String]) -> Result<(), Refusal> {
     let plan = match words {
-        [word, rest @ ..] if word.as_str() == "eager" => Plan::read(rest, Pace::Eager)?,
-        [word, rest @ ..] if word.as_str() == "resting" => Plan::read(rest, Pace::Resting)?,
-        _ => Plan::read(words, Pace::Patient)?,
+        [word, rest @ ..] if word.as_str() == "eager" => Plan::at(rest, Pace::Eager)?,
+        [word, rest @ ..] if word.as_str() == "resting" => Plan::at(rest, Pace::Resting)?,
+        _ => Plan::at(words, Pace::Patient)?,
     };
     measure(rt, plan)
 }

@@ -84,8 +84,26 @@ impl Plan {
         Ok(Plan::Told(what, u64::from(count)))
     }
 
-    /// The plan that words spell, at a pace.
-    pub fn read(words: &[String], pace: Pace) -> Result<Plan, Refusal> {
+    /// Whether it is measured at this pace: each is at the patient one, which needs no word.
+    fn goes_at(self, pace: Pace) -> bool {
+        match self {
+            Plan::Serve(_) => true,
+            Plan::Owner(_) | Plan::Lone { .. } | Plan::Values(..) => pace != Pace::Resting,
+            _ => pace == Pace::Patient,
+        }
+    }
+
+    /// The plan that words spell, at a pace that it has.
+    pub fn at(words: &[String], pace: Pace) -> Result<Plan, Refusal> {
+        let plan = Plan::read(words, pace)?;
+        if plan.goes_at(pace) {
+            Ok(plan)
+        } else {
+            Err(Refusal::Words)
+        }
+    }
+
+    fn read(words: &[String], pace: Pace) -> Result<Plan, Refusal> {
         let Some((name, rest)) = words.split_first() else {
             return Ok(Plan::Small);
         };

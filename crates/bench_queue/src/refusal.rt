@@ -10,15 +10,15 @@ use wq_worker::{Unbuilt, Work};
 /// Why nothing was measured.
 #[derive(Debug, Drop, Error)]
 pub enum Refusal {
-    /// Another count of words, a word that is no number, or a pool without a worker or a sender.
-    #[error("usage: bench_queue [eager | resting] [serve] SENDERS SLICE TOTAL | [eager] lone ROUNDS MICROS | \
-        [eager] values BYTES SENDERS SLICE TOTAL | delays ITEMS ROUNDS | large ITEMS | pool QUEUES WORKERS SENDERS TOTAL | \
-        events N | marks N")]
+    /// Another count of words, a word that is no number, a pace that what is measured has not, or a pool without a worker or a sender.
+    #[error("usage: bench_queue [eager] SENDERS SLICE TOTAL | [eager | resting] serve SENDERS SLICE TOTAL | \
+        [eager] lone ROUNDS MICROS | [eager] values BYTES SENDERS SLICE TOTAL | delays ITEMS ROUNDS | large ITEMS | \
+        pool QUEUES WORKERS SENDERS TOTAL | events N | marks N")]
     Words,
     /// More senders or items than a queue has.
     #[error("plan: {0}")]
     Limits(#[from] LayoutError),
-    /// No queue, or memory for the pool.
+    /// No queue or more than a pool has, or memory for the pool.
     #[error("pool: {0}")]
     Pool(#[from] PoolError),
     /// A pool that could not be taken apart, or a worker whose destroy came to its limit.
@@ -45,7 +45,7 @@ impl Refusal {
     /// The status that the program ends with.
     pub fn status(&self) -> u8 {
         match self {
-            Refusal::Words | Refusal::Limits(_) => 2,
+            Refusal::Words | Refusal::Limits(_) | Refusal::Pool(PoolError::NoQueue) => 2,
             _ => 3,
         }
     }

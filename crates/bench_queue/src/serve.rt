@@ -39,10 +39,10 @@ pub fn serve<R: Wait>(rt: &R, worker: &mut Worker<Runs>, parker: &Parker, pace: 
 
 /// Closes the queue and executes what is left of it, so that no sender waits for an item that would be pending for ever. How
 /// many items ran in all.
-fn finish(worker: Worker<Runs>) -> u64 {
+fn finish(worker: Worker<Runs>) -> Result<u64, Refusal> {
     match worker.destroy(u32::MAX) {
-        Ok((work, _book)) => work.count(),
-        Err(_unfinished) => 0,
+        Ok((work, _book)) => Ok(work.count()),
+        Err(_unfinished) => Err(Refusal::Unfinished),
     }
 }
 
@@ -63,5 +63,6 @@ pub fn run<R: Host>(rt: &R, load: Load) -> Result<(u64, Calls), Refusal> {
     let threads = start(rt, senders, load.slice, asks, parker.unparker(), &shown)?;
     serve(rt, &mut worker, &parker, load.pace);
     let items = finish(worker);
-    Ok((items, join_all(rt, threads)))
+    let calls = join_all(rt, threads);
+    Ok((items?, calls))
 }

@@ -27,17 +27,30 @@ pub fn offer<V: Payload>(sender: &mut ValueSender<V>, item: u32) -> bool {
     false
 }
 
+/// Queues each item of a slice, and counts them. False where the queue is closed.
+fn offer_slice<V: Payload>(
+    sender: &mut ValueSender<V>,
+    from: u32,
+    to: u32,
+    queued: &mut u64,
+) -> bool {
+    for item in from..to {
+        if !offer(sender, item) {
+            return false;
+        }
+        *queued = queued.saturating_add(1);
+    }
+    true
+}
+
 /// Queues its slice of items again and again until the queue is closed, and answers how many that were.
 fn feed<V: Payload>(mut sender: ValueSender<V>, slice: u32) -> u64 {
     let from = sender.number().saturating_mul(slice);
     let to = from.saturating_add(slice);
     let mut queued = 0u64;
     for _ in 0..u64::MAX {
-        for item in from..to {
-            if !offer(&mut sender, item) {
-                return queued;
-            }
-            queued = queued.saturating_add(1);
+        if !offer_slice(&mut sender, from, to, &mut queued) {
+            break;
         }
     }
     queued
