@@ -2,8 +2,8 @@
 # Refuses each allocation of each call that takes memory, one at a time, and compares what came of it with refused_memory.report:
 # refused_memory.sh PROGRAM [--all], with test_memory as PROGRAM. A case of it makes one call in such a way that its Nth allocation is
 # the program's hundredth, which checks/c/faults.c refuses, and tells whether that one was refused in the call. For each call there are
-# the cases up to the one behind its last allocation. Then each of the three threads that the logs want is refused in turn. With --all
-# the report is made anew, from 97 cases for each call. It wants a C compiler.
+# the cases up to the one behind its last allocation. Then each of the fifteen threads that the examples want is refused in turn. With
+# --all the report is made anew, from 97 cases for each call. It wants a C compiler.
 set -euo pipefail
 program=$(realpath "${1:?usage: checks/refused_memory.sh PROGRAM [--all]}")
 all=${2:-}
@@ -29,8 +29,10 @@ while read -r call _ count _; do
 done <"$report" >"$folder/said"
 
 # For each call how many of its allocations were refused, and what it then answered: `again` is want of memory and then the right
-# answer, by what was left or came back; `right` that a row which was refused more room than it wants went on. What the threads of `log`
-# take comes in another order in each run, so of that call it is told that none was wrong.
+# answer, by what was left or came back; `right` that it went on: a row that was refused more room than it wants, or an example without
+# memory for a thread. What the threads of `log` take comes in another order in each run, so of that call it is told that none was
+# wrong. In the other examples the memory for threads has fixed places, or only such memory is taken beside it, and each message that is
+# refused gives the same answer, so their counts are the same in each run.
 awk -F': |, ' '
     / refused (in|before|after) it$/ {
         split($1, name, " ")
@@ -56,8 +58,9 @@ awk -F': |, ' '
     }' "$folder/said" | sort >"$folder/report"
 cat "$folder/report"
 # Each call without a line on standard input. The logs' workers want the first thread that is made, and without it nothing is written;
-# a further worker and a client do without one of their own.
-for place in 1 2 3; do
+# a further worker and a client do without one of their own, and so do all of `threads` (the fourth to the sixth thread), `served`,
+# `messages` (two each) and `own_pool` (five).
+for place in $(seq 1 15); do
     expected=$(sed "$([ "$place" = 1 ] && echo 's/^log: right/log: thread/')" ../crates/test_memory/stdout)
     said=$(LD_PRELOAD=$folder/faults.so FAULT="thread fails" FAULT_AT=$place FAULT_TOLD=$folder/thread$place \
         timeout 60 "$program" </dev/null 2>&1) || said="$said (ended with status $?)"

@@ -1,5 +1,6 @@
 //! The calls, and whether each gives its right answer or says that memory is wanting.
 use crate::checkers::{check_events, check_marks};
+use crate::examples::{run_messages, run_pool, run_served, run_threads};
 use crate::log::write_logs;
 use crate::pool::serve_pool;
 use crate::streams::Page;
@@ -34,6 +35,10 @@ pub enum Call {
     ValueWorker,
     Pool,
     Log,
+    Threads,
+    Served,
+    Messages,
+    OwnPool,
     Events,
     Marks,
     Script(&'static str, &'static str),
@@ -84,6 +89,10 @@ pub const CALLS: &[(&str, Call)] = &[
     ("value_worker", Call::ValueWorker),
     ("pool", Call::Pool),
     ("log", Call::Log),
+    ("threads", Call::Threads),
+    ("served", Call::Served),
+    ("messages", Call::Messages),
+    ("own_pool", Call::OwnPool),
     ("events", Call::Events),
     ("marks", Call::Marks),
     (
@@ -387,6 +396,10 @@ pub fn make<T: Threads + Wait + Sync>(rt: &T, alloc: Global, call: Call) -> Said
         Call::ValueWorker => build_value_worker(alloc),
         Call::Pool => serve_pool(rt, alloc),
         Call::Log => write_logs(rt, alloc),
+        Call::Threads => run_threads(rt, alloc),
+        Call::Served => run_served(rt, alloc),
+        Call::Messages => run_messages(rt, alloc),
+        Call::OwnPool => run_pool(rt, alloc),
         Call::Events => check_events(alloc),
         Call::Marks => check_marks(alloc),
         Call::Script(text, report) => run_script(alloc, text, report),

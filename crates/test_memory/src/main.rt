@@ -4,6 +4,7 @@
 
 mod calls;
 mod checkers;
+mod examples;
 mod host;
 mod log;
 mod pool;
@@ -12,7 +13,7 @@ mod value_worker;
 mod values;
 mod worker;
 
-use calls::{CALLS, Call, Said, make};
+use calls::{CALLS, Call, make};
 use host::Host;
 use std::alloc::Global;
 use std::io;
