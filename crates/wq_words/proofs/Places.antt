@@ -1,14 +1,14 @@
 -- A number that the list or the owner keeps stands once among the accepted and not begun numbers.
 use Rattle.wq_words.proofs.Common.{◌≡◌, ℕ, ◌+◌, ◌<◌, ◌≤◌, ◌==◌, ◌↔◌, Bool, true, false, cond, if◌then◌else◌, List, [], ◌∷◌, ◌++◌, length, take, Some, None}
 use Rattle.wq_words.proofs.Common.{slice_get, refl, sym, ap, ◌∙◌, arith, inl, inr, count_by, take-take, take_at, length_push, append-nil, count_by_more_yes}
-use Rattle.wq_words.proofs.Common.{sum_by-take-le, fold_push, slice_get_within, get_or_from_slice_get, eqb-true, eq-eqb, cases_lt, IsPrefix, Layout, Event}
+use Rattle.wq_words.proofs.Common.{sum_by-take-le, slice_get_within, get_or_from_slice_get, eqb-true, eq-eqb, cases_lt, IsPrefix, Layout, Event}
 use Rattle.wq_words.proofs.Common.{Hold, Busy, Push, Back, Take, Close, Begin, Chain, accepted_by, accepted, begun_by, begun, taken, MayFollow, IsLegal, Keeper}
 use Rattle.wq_words.proofs.Common.{Home, Sender, Listed, Owner, Keeps, taken_over, keeper_after, keeper, Drain, Resume, shut}
 use Rattle.wq_words.proofs.Growing.{filter_map_push_some, filter_map_push_none, slice_get_append, slice_get_last}
 use Rattle.wq_words.proofs.Legal.{legal_induction}
 use Rattle.wq_words.proofs.Prefixes.{prefix_length}
 use Rattle.wq_words.proofs.Order.{IsInOrder, in_order}
-use Rattle.wq_words.proofs.Keepers.{IsQueue, held_bit, queue_bit, home_from_bit, sender_from_bit, queue_from_bit, kept}
+use Rattle.wq_words.proofs.Keepers.{IsQueue, held_bit, queue_bit, home_from_bit, sender_from_bit, queue_from_bit, kept, keeper_push}
 use Rattle.wq_words.proofs.Listed.{IsListed, IsQuiet, quiet, is_listed, length-accepted, accepted_push_none, taken_push_same, taken_push_push, taken_cut}
 use Rattle.wq_words.proofs.Listed.{taken_shut}
 use Rattle.wq_words.proofs.Closed.{shut_quiet, shut_close, shut_from_IsShut, shut_from_open}
@@ -81,18 +81,15 @@ module _ (k : ℕ) (h : List Event) where
   begun_same : (e : Event) → begun_by e ≡ None → length (begun (h ++ e ∷ [])) ≡ length (begun h)
   begun_same e none = ap length (filter_map_push_none begun_by h e none ∙ append-nil (begun h))
 
-  keeper_push : (e : Event) → keeper (h ++ e ∷ []) k ≡ keeper_after k (keeper h k) e
-  keeper_push e = fold_push (keeper_after k) Home h e
-
   same_place : (e : Event) → IsQuiet e → accepted_by e ≡ None → begun_by e ≡ None
       → StandsFor (length (begun h)) (taken h) (accepted h) k (keeper_after k (keeper h k) e) → IsPlaced k (h ++ e ∷ [])
   same_place e q no_accept no_begin o =
-      stands_at k (begun_same e no_begin) (taken_push_same h e q no_accept) (accepted_push_none h e no_accept) (keeper_push e) o
+      stands_at k (begun_same e no_begin) (taken_push_same h e q no_accept) (accepted_push_none h e no_accept) (keeper_push h e k) o
 
   took_place : (e : Event) → accepted_by e ≡ None → begun_by e ≡ None → taken (h ++ e ∷ []) ≡ length (accepted h)
       → StandsFor (length (begun h)) (length (accepted h)) (accepted h) k (keeper_after k (keeper h k) e) → IsPlaced k (h ++ e ∷ [])
   took_place e no_accept no_begin all o =
-      stands_at k (begun_same e no_begin) all (accepted_push_none h e no_accept) (keeper_push e) o
+      stands_at k (begun_same e no_begin) all (accepted_push_none h e no_accept) (keeper_push h e k) o
 
   placed_after : (e : Event) → MayFollow h e → IsInOrder h → IsListed h → taken h ≤ length (accepted h) → IsPlaced k h → IsPlaced k (h ++ e ∷ [])
   placed_after (Hold s j) may order l le o = same_place (Hold s j) (quiet refl refl refl refl) refl refl (held _ _ _ k s (j == k) _ o)
@@ -100,7 +97,7 @@ module _ (k : ℕ) (h : List Event) where
   placed_after (Back s j why) may order l le o = same_place (Back s j why) (quiet refl refl refl refl) refl refl (returned _ _ _ k (j == k) _ o)
   placed_after (Push s j) may order l le o =
       stands_at k (begun_same (Push s j) refl) (taken_push_push h s j (shut_from_open h may.1)) (filter_map_push_some accepted_by h (Push s j) j refl)
-      (keeper_push (Push s j))
+      (keeper_push h (Push s j) k)
       (pushed _ _ j _ k (j == k) _ (prefix_length (begun h) (accepted h) order.begun_first) le (eqb-true j k) o)
   placed_after Take may order l le o =
       took_place Take refl refl (taken_cut h Take refl refl) (took _ (taken h) _ k _ le o)
@@ -114,7 +111,7 @@ module _ (k : ℕ) (h : List Event) where
   placed_after (Begin j) may order l le o =
       let step : length (begun (h ++ Begin j ∷ [])) ≡ length (begun h) + 1 =
       ap length (filter_map_push_some begun_by h (Begin j) j refl) ∙ length_push (begun h) j in
-      stands_at k step (taken_push_same h (Begin j) (quiet refl refl refl refl) refl) (accepted_push_none h (Begin j) refl) (keeper_push (Begin j))
+      stands_at k step (taken_push_same h (Begin j) (quiet refl refl refl refl) refl) (accepted_push_none h (Begin j) refl) (keeper_push h (Begin j) k)
       (began _ _ j _ k (j == k) _ may.1 (λ differs same. absurd (cc (differs, eq-eqb j k same))) o)
   placed_after (Chain j) may order l le o =
       let is : shut h ≡ true = shut_from_IsShut h may.0 in
@@ -122,7 +119,7 @@ module _ (k : ℕ) (h : List Event) where
       let all : taken (h ++ Chain j ∷ []) ≡ length (accepted h) + 1 =
       taken_shut (h ++ Chain j ∷ []) (shut_quiet h (Chain j) refl refl refl ∙ is) ∙ ap length more ∙ length_push (accepted h) j in
       let o' : StandsFor (length (begun h)) (length (accepted h)) (accepted h) k (keeper h k) = rw (taken_shut h is) at o in
-      stands_at k (begun_same (Chain j) refl) all more (keeper_push (Chain j))
+      stands_at k (begun_same (Chain j) refl) all more (keeper_push h (Chain j) k)
       (chained _ j _ k (j == k) _ (prefix_length (begun h) (accepted h) order.begun_first) (eqb-true j k) o')
   placed_after _ may order l le o = same_place _ (quiet refl refl refl refl) refl refl o
 
