@@ -12,11 +12,6 @@ use Rattle.wq_table.proofs.Moves.{goes_still, shelves_take, shelves_close, shelv
 use Rattle.wq_table.proofs.Moves.{goes_push, goes_back, goes_begin, goes_chain}
 use Rattle.wq_table.proofs.Walked.{goes_walk, goes_walk_none}
 
--- a seat that looked is a sender's
-pub from_seen : (word : ℕ) (stage : Stage) → HasSeen word stage → IsSender stage
-from_seen word (Sends q) is = tt
-from_seen word (Owns cursor walked batch) is = absurd is
-
 module _ {V : Type 0} (c : ℕ) (layout : Layout) (seen : List Event) (words : List ℕ) where
   pub by_hold : (k slots : ℕ) (hand : Hand V) (stage : Stage) → IsSender stage → k < number_count layout → slots ≡ number_count layout
       → GoesBy slots (part c layout seen words stage) None (Hold k) hand

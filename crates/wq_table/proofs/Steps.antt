@@ -19,7 +19,7 @@ use Rattle.wq_words.proofs.Running.{runs_some}
 use Rattle.wq_words.proofs.Seen.{held_same, closed_same, running_same}
 use Rattle.wq_words.proofs.ShutOwn.{shut_same}
 
--- who has seen a head is a sender
+-- a seat that has seen a head is a sender's
 pub sender_seen : (word : ℕ) (stage : Stage) → HasSeen word stage → IsSender stage
 sender_seen word (Sends p) is = tt
 sender_seen word (Owns cursor walked batch) is = absurd is

@@ -25,7 +25,7 @@ and-requires-clause-goes g c = let s = c.self.inside in let it = c.args.self.now
     (item_at_part s it sits view at _ k c.item_place-place.ensures.place)))
     (by_either it.queue.slots p None (step.Back k Draining) it.hand (λ some_slot. subst (GoesBy it.queue.slots p None (step.Back k Draining)) (sym
     (c.requires.slot some_slot)) (by.by_back p.seat p.layout p.seen p.words k it.queue.slots Draining _ p.stage
-    (by.from_seen _ p.stage c.requires.draining) c.requires.held c.requires.number (deep_in s it sits view at some_slot))))
+    (steps.sender_seen _ p.stage c.requires.draining) c.requires.held c.requires.number (deep_in s it sits view at some_slot))))
 
 pub returns : goal.returns
 returns g c = let s = c.self.inside in let it = c.args.self.now in let sits = c.self.invariant in let view = c.self.view_is in
