@@ -5,7 +5,7 @@ use Rattle.wq_calls.proofs.Common.{accepted_by, begun_by, owner_seat, seat_of, o
 use Rattle.std.specs.Prelude.{filter_map}
 use Rattle.std.specs.List.{cons_option}
 use Rattle.std.proofs.lemmas.Bool.{eq-eqb}
-use Rattle.wq_words.proofs.Growing.{ends_alike}
+use Rattle.std.proofs.lemmas.List.{same_from_push}
 use Rattle.wq_words.specs.declared.event.Event.TheVariants.{Chain}
 use Rattle.wq_words.specs.declared.event.Why.TheVariants as why
 use Rattle.wq_words.specs.Valued.{first_in, left_of, paired, value_if, value_of}
@@ -120,7 +120,7 @@ module _ {V : Type 0} (c : ℕ) where
       let whole : own_brought c w cs ≡ own_brought c before cut.0 ++ y ∷ [] =
       (λ i. own_brought c (is i) (cut.2 i)) ∙ (own_brought_append c before (e ∷ after) cut.0 (y ∷ cut.1) cut.3 ∙
       ap (λ (z : List (Option V)). own_brought c before cut.0 ++ z) behind) in
-      let ends = ends_alike (own_brought c v bs) (own_brought c before cut.0) only.0 y
+      let ends = same_from_push (own_brought c v bs) (own_brought c before cut.0) only.0 y
       (sym (m.1 ∙ ap (λ (z : List (Option V)). own_brought c v bs ++ z) only.1) ∙ whole) in
       whole ∙ ap (λ (z : List (Option V)). z ++ y ∷ []) (sym ends.0)
     where

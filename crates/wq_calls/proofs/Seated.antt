@@ -5,7 +5,7 @@ use Rattle.std.proofs.Common.{get_or}
 use Rattle.std.proofs.Math.ListN.{get_or-append}
 use Rattle.std.proofs.Math.Seq.{get_or-append_seam}
 use Rattle.std.proofs.lemmas.List.Elements.{All-append, All-cons, All-nil}
-use Rattle.wq_words.proofs.Growing.{ends_alike}
+use Rattle.std.proofs.lemmas.List.{same_from_push}
 use Rattle.wq_words.proofs.Written.{each_more}
 use Rattle.wq_calls.specs.Known.{QueueId, new_sender, AreNumbered}
 
@@ -55,7 +55,7 @@ pub one_less : (q : QueueId) (l : Layout) (m : ℕ) (xs ys : List Known) (b : Kn
     → (ys ≡ new_senders q l (length ys)) × (b ≡ new_sender q l (length ys))
 one_less q l m xs ys b made one =
     let count : m ≡ suc (length ys) = omega (arith, length-new_senders q l m, ap length (sym made ∙ one), length-append ys (b ∷ [])) in
-    ends_alike ys (new_senders q l (length ys)) b (new_sender q l (length ys)) (sym one ∙ (made ∙ ap (new_senders q l) count))
+    same_from_push ys (new_senders q l (length ys)) b (new_sender q l (length ys)) (sym one ∙ (made ∙ ap (new_senders q l) count))
 
 -- the last two of the senders are taken away
 pub two_less : (q : QueueId) (l : Layout) (n m : ℕ) (xs ys zs : List Known) (a b : Known) → m ≡ n + 2 → xs ≡ new_senders q l m → xs ≡ ys ++ b ∷ []
@@ -64,6 +64,6 @@ pub two_less : (q : QueueId) (l : Layout) (n m : ℕ) (xs ys zs : List Known) (a
 two_less q l n m xs ys zs a b count made one two =
     let more : m ≡ suc (n + 1) = omega (arith, count) in
     let more2 : n + 1 ≡ suc n = omega arith in
-    let first = ends_alike ys (new_senders q l (n + 1)) b (new_sender q l (n + 1)) (sym one ∙ (made ∙ ap (new_senders q l) more)) in
-    let second = ends_alike zs (new_senders q l n) a (new_sender q l n) (sym two ∙ (first.0 ∙ ap (new_senders q l) more2)) in
+    let first = same_from_push ys (new_senders q l (n + 1)) b (new_sender q l (n + 1)) (sym one ∙ (made ∙ ap (new_senders q l) more)) in
+    let second = same_from_push zs (new_senders q l n) a (new_sender q l n) (sym two ∙ (first.0 ∙ ap (new_senders q l) more2)) in
     (second.0, second.1, first.1)

@@ -7,6 +7,7 @@ pub use Rattle.std.proofs.lemmas.List.{append-nil, drop-drop}
 pub use Rattle.std.proofs.lemmas.Option.{slice_get_past, slice_get_within}
 pub use Rattle.wq_words.proofs.Growing.{count_by_push, growing, slice_get_append, slice_get_last, take_length}
 pub use Rattle.wq_words.proofs.Keepers.{kept, queue_bit}
+pub use Rattle.wq_words.proofs.Lists.{all_alike, slice_get-drop}
 pub use Rattle.wq_words.proofs.Order.{in_order}
 pub use Rattle.wq_words.proofs.Prefixes.{prefix_length}
 pub use Rattle.wq_words.proofs.Times.{times, times-append, times-cons}

@@ -1,9 +1,9 @@
 -- How a queue stands once an event came.
-use Rattle.wq_check.proofs.Common.{◌≡◌, ◌≢◌, ℕ, zero, suc, replicate, ◌+◌, ◌-◌, ◌<◌, ◌≤◌, ◌↔◌, true, false, List, [], ◌∷◌, ◌++◌, length, drop, get_or}
+use Rattle.wq_check.proofs.Common.{◌≡◌, ◌≢◌, ℕ, replicate, ◌+◌, ◌-◌, ◌<◌, ◌≤◌, ◌↔◌, true, false, List, [], ◌∷◌, ◌++◌, length, drop, get_or}
 use Rattle.wq_check.proofs.Common.{slice_get, Some, None, refl, sym, ap, ◌∙◌, arith, inl, inr, length-append, drop-drop, slice_get_past, false≢true}
 use Rattle.wq_check.proofs.Common.{cases_eq, Layout, Event, Hold, Busy, Push, Back, Take, Close, Drain, Resume, Begin, Chain, ChainBusy, Rest}
 use Rattle.wq_check.proofs.Common.{number_count, accepted, begun, ended, IsRunning, Keeper, Home, Sender, Listed, Owner, keeper, growing}
-use Rattle.wq_check.proofs.Common.{slice_get_last, count_by_push, prefix_length, in_order, Idle}
+use Rattle.wq_check.proofs.Common.{slice_get_last, count_by_push, prefix_length, in_order, Idle, all_alike}
 use Rattle.std.proofs.Common.{IsTrue, length-set, set}
 use Rattle.std.proofs.lemmas.List.{length-replicate, get_or-set_other, get_or-set_same, drop-append-le}
 use Rattle.wq_words.specs.declared.event.Event.TheVariants.{End}
@@ -211,16 +211,11 @@ room c h e k o a grows same =
     let few' : length (after_event c e).waiting ≤ number_count (after_event c e).layout = few_left (after_event c e) (h ++ e ∷ []) (after_kept c h o e a) in
     omega (arith, ap length grows, length-append c.waiting (k ∷ []), ap number_count same)
 
-pub alike : {A : Type 0} (n k : ℕ) (x : A) → get_or (replicate n x) k x ≡ x
-alike zero k x = refl
-alike (suc n) zero x = refl
-alike (suc n) (suc k) x = alike n k x
-
 pub told_opening : (layout : Layout) → StandsAfter (queue_state layout (replicate (number_count layout) Idle) [] None false false false) []
 told_opening layout = record {
   legal = legal_nil layout;
   has_places = length-replicate _ _;
-  places_are = λ k lt. alike (number_count layout) k Idle;
+  places_are = λ k lt. all_alike (number_count layout) k Idle;
   waiting_is = refl;
   running_is = refl;
   closed_is = refl;

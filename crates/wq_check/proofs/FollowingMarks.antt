@@ -2,7 +2,7 @@
 use Rattle.wq_check.proofs.Common.{◌≡◌, ℕ, ◌+◌, ◌-◌, ◌<◌, ◌≤◌, ◌==◌, Bool, cond, List, [], ◌∷◌, ◌++◌, length, drop, replicate, get_or, slice_get}
 use Rattle.wq_check.proofs.Common.{Some, None, refl, sym, ap, ◌∙◌, arith, inl, inr, length-append, drop-drop, slice_get_past, eq-eqb, ne_eqb}
 use Rattle.wq_check.proofs.Common.{cases_eq, Layout, number_count, growing, slice_get_last, take_length, Mark, Queue, Start, End, queued, started}
-use Rattle.wq_check.proofs.Common.{returned, MayShow, number_of, IsLegalTrace, times, times-append, times-cons}
+use Rattle.wq_check.proofs.Common.{returned, MayShow, number_of, IsLegalTrace, times, times-append, times-cons, all_alike}
 use Rattle.std.proofs.Common.{set}
 use Rattle.std.proofs.Common.{length-set}
 use Rattle.std.proofs.lemmas.List.{length-replicate, get_or-set_other, get_or-set_same, drop-append-le}
@@ -11,7 +11,6 @@ use Rattle.circular_buffer.specs.Buffer.{keep_last}
 use Rattle.wq_words.proofs.Growing.{slice_get_push, take_append}
 use Rattle.wq_check.specs.Trace.{next_start}
 use Rattle.wq_check.specs.TraceChecked.{SeenState, seen_state, LooksAfter}
-use Rattle.wq_check.proofs.Following.{alike}
 use Rattle.wq_check.proofs.Looking.{lengths, next_is}
 
 -- the queue once the mark was shown
@@ -120,7 +119,7 @@ pub looks_opening : (layout : Layout) → LooksAfter (seen_state layout (replica
 looks_opening layout = record {
   legal = λ place m at. absurd cc;
   has_times = length-replicate _ _;
-  times_are = λ k lt. alike layout.items k 0;
+  times_are = λ k lt. all_alike layout.items k 0;
   waiting_is = refl;
   running_is = refl;
 }

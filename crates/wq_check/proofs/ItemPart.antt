@@ -10,7 +10,7 @@ use Rattle.std.proofs.lemmas.List.Elements.{filter-append}
 use Rattle.wq_words.specs.declared.event.Event.TheVariants as event
 use Rattle.wq_words.specs.History.{accepted_by, begun_by, ended_by}
 use Rattle.wq_words.specs.Legal.{IsAllowed}
-use Rattle.wq_words.proofs.Growing.{ends_alike}
+use Rattle.std.proofs.lemmas.List.{same_from_push}
 use Rattle.wq_words.proofs.Legal.{legal_induction}
 use Rattle.wq_words.proofs.Order.{IsInOrder, idle-same}
 use Rattle.wq_words.proofs.Prefixes.{prefix_whole}
@@ -147,7 +147,7 @@ module _ (layout : Layout) where
           go : (b : Bool) → is_of_items layout f ≡ b → CameLast g e
           go true item =
               let grown : item_part layout (h ++ f ∷ []) ≡ item_part layout h ++ f ∷ [] = filter-append (is_of_items layout) h (f ∷ []) ∙ rw item refl in
-              let both = ends_alike (item_part layout h) g f e (sym grown ∙ is) in
+              let both = same_from_push (item_part layout h) g f e (sym grown ∙ is) in
               record { before = h; legal = legal; allowed = rw (← both.1) allowed; is = both.0; item = rw (← both.1) item }
           go false other =
               let grown : item_part layout (h ++ f ∷ []) ≡ item_part layout h ++ [] = filter-append (is_of_items layout) h (f ∷ []) ∙ rw other refl in

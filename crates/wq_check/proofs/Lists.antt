@@ -1,14 +1,14 @@
 -- What is left of a list behind some of its elements, and the largest of some numbers.
-use Rattle.std.proofs.Common.{◌≡◌, ℕ, zero, suc, ◌-◌, ◌≤◌, max, List, [], ◌∷◌, ◌++◌, length, take, drop, Some, slice_get, refl, ap, ◌∙◌}
+use Rattle.std.proofs.Common.{◌≡◌, ℕ, zero, suc, ◌-◌, ◌≤◌, max, List, [], ◌∷◌, ◌++◌, length, take, drop, Some, None, slice_get, refl, ap, ◌∙◌}
 use Rattle.std.proofs.Common.{arith, length-append}
 use Rattle.std.proofs.lemmas.List.{take_all, take-append-le}
+use Rattle.std.specs.List.{Contains}
 use Rattle.wq_check.specs.Left.{largest_up_to}
 
-pub first_left : {X : Type 0} (n : ℕ) (xs : List X) → slice_get (drop n xs) 0 ≡ slice_get xs n
-first_left zero [] = refl
-first_left zero (x ∷ xs) = refl
-first_left (suc n) [] = refl
-first_left (suc n) (x ∷ xs) = first_left n xs
+-- a list that contains something has a first
+pub never_empty : (xs : List ℕ) (k : ℕ) → Contains xs k → slice_get xs 0 ≡ None → ⊥
+never_empty [] k at none = absurd (omega (arith, at.1))
+never_empty (x ∷ xs) k at none = cc
 
 pub drop_some : {X : Type 0} (xs : List X) (n : ℕ) (x : X) → slice_get xs n ≡ Some x → drop n xs ≡ x ∷ drop (suc n) xs
 drop_some [] n x at = absurd cc

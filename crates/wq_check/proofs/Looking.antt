@@ -3,7 +3,7 @@ use Rattle.wq_check.proofs.Common.{subst, ◌≡◌, ◌≢◌, ℕ, suc, ◌+�
 use Rattle.wq_check.proofs.Common.{Some, None, refl, sym, ap, ◌∙◌, arith, inl, inr, length-append, drop-drop, slice_get_past, slice_get_within}
 use Rattle.wq_check.proofs.Common.{eq-eqb, ne_eqb, cases_eq, cases_lt, Layout, Event, number_count, accepted, begun, ended, slice_get_append}
 use Rattle.wq_check.proofs.Common.{prefix_length, in_order, Mark, Queue, Start, End, queued, started, returned, unseen, MayShow, IsLegalTrace}
-use Rattle.wq_check.proofs.Common.{surely_unbegun, times, times-cons}
+use Rattle.wq_check.proofs.Common.{surely_unbegun, times, times-cons, slice_get-drop}
 use Rattle.std.proofs.Common.{◌⊎◌}
 use Rattle.std.proofs.Common.{length-drop}
 use Rattle.std.proofs.lemmas.Option.{slice_get-get_or}
@@ -17,8 +17,8 @@ use Rattle.wq_check.specs.MarkCauses.{HasMarkCause}
 use Rattle.wq_check.specs.TraceChecked.{SeenState, LooksAfter}
 use Rattle.wq_words.proofs.Times.{Contains_from_times, none_from_times}
 use Rattle.wq_check.proofs.Waits.{few_unbegun}
-use Rattle.wq_check.proofs.Lists.{first_left, drop_some}
-use Rattle.wq_check.proofs.Shown.{trace_history}
+use Rattle.wq_check.proofs.Lists.{drop_some, never_empty}
+use Rattle.wq_check.proofs.Shown.{trace_history, same_unseen, other_unseen}
 use Rattle.wq_check.proofs.Unshown.{Shown, history_shown, fewer}
 
 next_waits : (t : List Mark) (k : ℕ) → next_start t ≡ Some k → Contains (unstarted t) k
@@ -116,31 +116,25 @@ module _ (c : SeenState) (t : List Mark) (o : LooksAfter c t) where
   )
 
   pub next_is : slice_get c.waiting 0 ≡ slice_get (queued t) (length (started t))
-  next_is = ap (λ w. slice_get w 0) o.waiting_is ∙ first_left (length (started t)) (queued t)
+  next_is = ap (λ w. slice_get w 0) o.waiting_is ∙ slice_get-drop (length (started t)) (queued t)
 
   passed_over : (k : ℕ) → times k (surely_unbegun t) ≡ times k (drop (unseen t) c.waiting)
   passed_over k = ap (times k) (sym (drop-drop (unseen t) (length (started t)) (queued t)) ∙ ap (drop (unseen t)) (sym o.waiting_is))
-
-  seen_one : length (started t) ≡ length (returned t) → unseen t ≡ 1
-  seen_one e = rw (eq-eqb _ _ e) refl
-
-  seen_none : length (started t) ≢ length (returned t) → unseen t ≡ 0
-  seen_none ne = rw (ne_eqb _ _ ne) refl
 
   queue-to : (k : ℕ) → k < c.layout.items → AllowsMark c (Queue k) → times k (surely_unbegun t) ≡ 0
   queue-to k lt (inl none) =
       let zero' : times k (drop (length (started t)) (queued t)) ≡ 0 = ap (times k) (sym o.waiting_is) ∙ (sym (o.times_are k lt) ∙ none) in
       fewer k (length (started t)) (unseen t) (queued t) zero'
   queue-to k lt (inr first) =
-      let one = seen_one (idle-rests.0 first.1.0) in
+      let one = same_unseen t (idle-rests.0 first.1.0) in
       passed_over k ∙ (ap (λ n. times k (drop n c.waiting)) one ∙ (behind k c.waiting).1 (inr (sym (o.times_are k lt) ∙ first.0, first.1.1)))
 
   queue-from : (k : ℕ) → k < c.layout.items → times k (surely_unbegun t) ≡ 0 → AllowsMark c (Queue k)
   queue-from k lt may =
       elim (cases_eq (length (started t)) (length (returned t))) [
-        | inr ne ↦ inl (o.times_are k lt ∙ (ap (λ n. times k (drop n c.waiting)) (sym (seen_none ne)) ∙ (sym (passed_over k) ∙ may)))
+        | inr ne ↦ inl (o.times_are k lt ∙ (ap (λ n. times k (drop n c.waiting)) (sym (other_unseen t ne)) ∙ (sym (passed_over k) ∙ may)))
         | inl e ↦
-            let none : times k (drop 1 c.waiting) ≡ 0 = ap (λ n. times k (drop n c.waiting)) (sym (seen_one e)) ∙ (sym (passed_over k) ∙ may) in
+            let none : times k (drop 1 c.waiting) ≡ 0 = ap (λ n. times k (drop n c.waiting)) (sym (same_unseen t e)) ∙ (sym (passed_over k) ∙ may) in
             elim ((behind k c.waiting).0 none) [
               | inl zero' ↦ inl (o.times_are k lt ∙ zero')
               | inr first ↦ inr (o.times_are k lt ∙ first.0, (idle-rests.1 e, first.1))
@@ -176,11 +170,7 @@ module _ (c : SeenState) (t : List Mark) (o : LooksAfter c t) where
 
   -- something waits, so there is a first
   pub first_of : (k : ℕ) → Contains (unstarted t) k → slice_get c.waiting 0 ≡ None → ⊥
-  first_of k is none = nothing c.waiting (rw (← o.waiting_is) at is) none
-    where
-      nothing : (xs : List ℕ) → Contains xs k → slice_get xs 0 ≡ None → ⊥
-      nothing [] at none = absurd (omega (arith, at.1))
-      nothing (x ∷ xs) at none = cc
+  first_of k is none = never_empty c.waiting k (rw (← o.waiting_is) at is) none
 
   -- what is left is what waits, behind what runs
   pub left_rests : c.running ≡ None → unreturned t ≡ c.waiting

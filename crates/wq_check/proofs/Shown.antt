@@ -196,6 +196,13 @@ module _ (layout : Layout) (t : List Mark) (h : List Event) (o : Tells layout t 
       none_early : length (returned t) < length (started t) → length o.early ≡ 0
       none_early within = zero_or (length o.early) (λ some. omega (arith, within, o.idle some))
 
+-- how many executions may have begun unseen: one where as many have returned as were started, and else none
+pub same_unseen : (t : List Mark) → length (started t) ≡ length (returned t) → unseen t ≡ 1
+same_unseen t e = rw (eq-eqb _ _ e) refl
+
+pub other_unseen : (t : List Mark) → length (started t) ≢ length (returned t) → unseen t ≡ 0
+other_unseen t ne = rw (ne_eqb _ _ ne) refl
+
 abbrev pub Next : Layout → List Mark → Type 0
 Next layout t = (h : List Event) × Tells layout t h
 
@@ -209,12 +216,6 @@ module _ (layout : Layout) (t : List Mark) (h : List Event) (o : Tells layout t 
         | inr some ↦ (h, start_seen layout t h o k (omega (arith, some, o.few)) may.1)
       ]
 
-  same_unseen : length (started t) ≡ length (returned t) → unseen t ≡ 1
-  same_unseen e = rw (eq-eqb _ _ e) refl
-
-  other_unseen : length (started t) ≢ length (returned t) → unseen t ≡ 0
-  other_unseen ne = rw (ne_eqb _ _ ne) refl
-
   -- where as many are passed over as have begun, a number that may be queued does not wait
   waits_none : (k : ℕ) → MayShow t (Queue k) → length (begun h) ≡ length (started t) + unseen t → times k (drop (length (begun h)) (accepted h)) ≡ 0
   waits_none k may same =
@@ -227,15 +228,15 @@ module _ (layout : Layout) (t : List Mark) (h : List Event) (o : Tells layout t 
       elim (cases_eq (length (started t)) (length (returned t))) [
         | inr ne ↦
             let none : length o.early ≡ 0 = zero_or (length o.early) (λ one. ne (o.idle one)) in
-            absurd (omega (arith, some, waits_none k may (omega (arith, sizes layout t h o, none, other_unseen ne))))
+            absurd (omega (arith, some, waits_none k may (omega (arith, sizes layout t h o, none, other_unseen t ne))))
         | inl e ↦
             elim (cases_lt (length o.early) 1) [
-              | inr one ↦ absurd (omega (arith, some, waits_none k may (omega (arith, sizes layout t h o, one, o.few, same_unseen e))))
+              | inr one ↦ absurd (omega (arith, some, waits_none k may (omega (arith, sizes layout t h o, one, o.few, same_unseen t e))))
               | inl less ↦
                   let place : length (begun h) ≡ length (started t) = omega (arith, sizes layout t h o) in
                   let there : times k (drop (length (started t)) (queued t)) ≡ times k (drop (length (begun h)) (accepted h)) =
                   ap (λ n. times k (drop n (queued t))) (sym place) ∙ ap (λ xs. times k (drop (length (begun h)) xs)) (sym o.queued_is) in
-                  let on : length (started t) + unseen t ≡ suc (length (started t)) = omega (arith, same_unseen e) in
+                  let on : length (started t) + unseen t ≡ suc (length (started t)) = omega (arith, same_unseen t e) in
                   let behind : times k (drop (suc (length (started t))) (queued t)) ≡ 0 =
                   ap (λ n. times k (drop n (queued t))) (sym on) ∙ times_from_none k (surely_unbegun t) may in
                   let at = only_first k (length (started t)) (queued t) (omega (arith, some, there)) behind in

@@ -1,9 +1,9 @@
 -- How a queue stands tells of each next event whether it may come, and what is left.
-use Rattle.wq_check.proofs.Common.{◌≡◌, ◌≢◌, ℕ, suc, ◌+◌, ◌-◌, ◌<◌, ◌≤◌, ◌==◌, ◌↔◌, Bool, true, false, List, [], ◌∷◌, length, drop, get_or, cond}
+use Rattle.wq_check.proofs.Common.{◌≡◌, ◌≢◌, ℕ, suc, ◌+◌, ◌-◌, ◌<◌, ◌≤◌, ◌==◌, ◌↔◌, Bool, true, false, List, ◌∷◌, length, drop, get_or, cond}
 use Rattle.wq_check.proofs.Common.{slice_get, Some, None, is_some, refl, sym, ap, ◌∙◌, arith, false≢true, eq-eqb, Event, Hold, Busy, Push, Back, Take}
 use Rattle.wq_check.proofs.Common.{Close, Drain, Resume, Begin, Chain, ChainBusy, Rest, number_count, accepted, begun, ended, running, IsRunning}
 use Rattle.wq_check.proofs.Common.{Keeper, Home, Sender, Listed, Owner, keeper, slice_get_append, prefix_length, in_order, queue_bit, kept, Idle}
-use Rattle.wq_check.proofs.Common.{unbegun, times, times-cons}
+use Rattle.wq_check.proofs.Common.{unbegun, times, times-cons, slice_get-drop}
 use Rattle.std.proofs.Common.{not, IsTrue}
 use Rattle.std.proofs.Common.{Option, length-drop}
 use Rattle.std.specs.List.{Contains}
@@ -25,7 +25,8 @@ use Rattle.wq_check.specs.Left.{left}
 use Rattle.wq_check.specs.Causes.{HasCause}
 use Rattle.wq_check.proofs.Waits.{waits_bit}
 use Rattle.wq_words.proofs.Times.{times_from_Contains, Contains_from_times}
-use Rattle.wq_check.proofs.Lists.{first_left, drop_some}
+use Rattle.wq_check.proofs.Lists.{drop_some, never_empty}
+use Rattle.wq_words.proofs.Cases.{none_told}
 
 abbrev pub place_at : QueueState → ℕ → Place
 place_at c k = get_or c.places k Idle
@@ -162,14 +163,10 @@ module _ (c : QueueState) (h : List Event) (o : StandsAfter c h) where
       runs (Some k) e ne = runs_from_running h k (sym e)
 
   pub next_is : slice_get c.waiting 0 ≡ next h
-  next_is = ap (λ xs. slice_get xs 0) o.waiting_is ∙ first_left (length (begun h)) (accepted h)
+  next_is = ap (λ xs. slice_get xs 0) o.waiting_is ∙ slice_get-drop (length (begun h)) (accepted h)
 
   pub runs_not : is_some c.running ≡ false → ¬ IsRunning h
-  runs_not none = idle-rests.0 (is_none c.running none)
-    where
-      is_none : (r : Option ℕ) → is_some r ≡ false → r ≡ None
-      is_none None e = refl
-      is_none (Some k) e = absurd (false≢true (sym e))
+  runs_not none = idle-rests.0 (none_told c.running none)
 
   pub runs_one : is_some c.running ≡ true → IsRunning h
   runs_one some = busy-runs.0 (λ none. false≢true (ap is_some (sym none) ∙ some))
@@ -192,11 +189,7 @@ module _ (c : QueueState) (h : List Event) (o : StandsAfter c h) where
 
   -- something waits, so there is a first
   pub first_of : (k : ℕ) → Contains (unbegun h) k → slice_get c.waiting 0 ≡ None → ⊥
-  first_of k is none = nothing (c.waiting) (rw (← o.waiting_is) at is) none
-    where
-      nothing : (xs : List ℕ) → Contains xs k → slice_get xs 0 ≡ None → ⊥
-      nothing [] at none = absurd (omega (arith, at.1))
-      nothing (x ∷ xs) at none = cc
+  first_of k is none = never_empty c.waiting k (rw (← o.waiting_is) at is) none
 
   -- what is left is what waits, behind what runs
   pub left_rests : c.running ≡ None → left h ≡ c.waiting

@@ -1,6 +1,6 @@
 -- The opening is sound, and each step that is made keeps it so.
-use Rattle.wq_core.proofs.Common.{HasSeenOpen, TakesPushes, ◌≡◌, ◌≢◌, ℕ, zero, suc, ◌==◌, Bool, true, false, if◌then◌else◌, List, [], ◌∷◌}
-use Rattle.wq_core.proofs.Common.{get_or, Option, None, Some, unwrap_or, refl, ap, replicate, eqb-true, eqb-false, length-replicate}
+use Rattle.wq_core.proofs.Common.{HasSeenOpen, TakesPushes, ◌≡◌, ◌≢◌, ℕ, ◌==◌, Bool, true, false, if◌then◌else◌, List, [], ◌∷◌}
+use Rattle.wq_core.proofs.Common.{Option, None, Some, unwrap_or, refl, ap, eqb-true, eqb-false, length-replicate}
 use Rattle.wq_core.proofs.Common.{Layout, number_count, IsRunning, legal_nil, Private, Step, Look, Link, Check}
 use Rattle.wq_core.proofs.Common.{Walk, Turn, busy_word, word_count, link_word, link_to, word_at, Machine, opening, nothing_seen, head, link, item_word}
 use Rattle.wq_core.proofs.Common.{private, seen_word, after_walk, after_begin, after, IsMade, IsSound}
@@ -14,6 +14,7 @@ use Rattle.wq_core.proofs.OwnerSteps.{sound_chain_busy, sound_rest}
 use Rattle.wq_core.proofs.Privates.{none_seen}
 use Rattle.wq_core.proofs.Heads.{link_open}
 use Rattle.wq_core.proofs.Turning.{sound_turn}
+use Rattle.wq_words.proofs.Lists.{all_alike}
 
 pub either : (q : Bool) (P : Machine → Type 0) (a b : Machine) → (q ≡ true → P a) → (q ≡ false → P b) → P (if q then a else b)
 either true P a b holds fails = holds refl
@@ -63,11 +64,6 @@ sound_after m Owner (Turn k next) o made = sound_turn m o k made.1 (word_at next
 sound_after m Owner Rest o made =
     either (head m == busy_word) IsSound _ _ (λ e. sound_rest m o made.1.0 made.1.1 made.1.2 made.1.3 (eqb-true (head m) busy_word e)) (λ e. o)
 sound_after m Owner _ o made = absurd made.1
-
-pub all_alike : {A : Type 0} (n k : ℕ) (x : A) → get_or (replicate n x) k x ≡ x
-all_alike zero k x = refl
-all_alike (suc n) zero x = refl
-all_alike (suc n) (suc k) x = all_alike n k x
 
 pub sound_opening : (layout : Layout) → IsSound (opening layout)
 sound_opening layout = record {

@@ -4,16 +4,10 @@ use Rattle.wq_delay.proofs.Common.{sym, refl, ap, ◌∙◌, subst, arith, eqb-t
 use Rattle.wq_delay.proofs.Common.{first_false, second_false, all_by, Place, place_in, entry_at, place_at, entries_of, place_of, AreApart, AreRows}
 use Rattle.wq_delay.specs.Rows.{goes_before, slotted, with_place, entries_from}
 use Rattle.wq_delay.proofs.Table.{place_some, put_by}
-
-pub not_some : {X : Type 0} (o : Option X) → is_some o ≡ false → o ≡ None
-not_some None is = refl
-not_some (Some x) is = absurd (cc)
-
-pub some_same : (x y : Place) → Some x ≡ Some y → x ≡ y
-some_same x y is = cc
+use Rattle.wq_words.proofs.Cases.{none_told, same_some}
 
 pub place_off : (k : ℕ) (es : List Entry) → on_table k es ≡ false → place_of k es ≡ None
-place_off k es off = not_some (place_of k es) (place_some k es ∙ off)
+place_off k es off = none_told (place_of k es) (place_some k es ∙ off)
 
 pub off_place : (k : ℕ) (es : List Entry) → place_of k es ≡ None → on_table k es ≡ false
 off_place k es none = sym (place_some k es) ∙ ap is_some none
@@ -50,7 +44,7 @@ same_first e f es fs p q same = by (e.item == f.item) refl
     by : (b : Bool) → (e.item == f.item) ≡ b → e ≡ f
     by true is =
         let k : e.item ≡ f.item = eqb-true e.item f.item is in
-        let at = some_same (place_at f.due f.arming) (place_at e.due e.arming)
+        let at = same_some (place_at f.due f.arming) (place_at e.due e.arming)
         (sym (place_first f fs) ∙ (ap (λ (z : ℕ). place_of z (f ∷ fs)) (sym k) ∙ there)) in
         let d : e.due ≡ f.due = sym (ap (λ (z : Place). z.due) at) in let a : e.arming ≡ f.arming = sym (ap (λ (z : Place). z.arming) at) in
         λ i. record { due = d i; arming = a i; item = k i }

@@ -8,8 +8,9 @@ use Rattle.wq_machine.proofs.Common.{prefix_length, Private, link_place, word_co
 use Rattle.wq_machine.proofs.Common.{head, link, item_word, done_word, private, seen_word, with_head, with_link, with_item, with_done, with_private, happened}
 use Rattle.wq_machine.proofs.Common.{unlinked, StandsIn, IsChain, IsSound, holder, LinksFit, LooksFit, IsStored}
 use Rattle.wq_words.proofs.Keepers.{gives_hold, gives_push, gives_back, gives_begin, gives_chain}
+use Rattle.wq_words.proofs.Lists.{all_alike}
 use Rattle.wq_core.proofs.Privates.{follow_give, follow_same, follow_quiet}
-use Rattle.wq_core.proofs.Sound.{sound_opening, all_alike}
+use Rattle.wq_core.proofs.Sound.{sound_opening}
 use Rattle.wq_core.proofs.SenderSteps.{sound_hold, sound_busy, sound_look, sound_link, sound_push, sound_lost, sound_back}
 use Rattle.wq_core.proofs.OwnerSteps.{sound_take, sound_close, sound_drain, sound_resume, sound_walk_end, sound_walk_on, sound_begin, sound_end, sound_chain}
 use Rattle.wq_core.proofs.OwnerSteps.{sound_chain_busy, sound_rest, first_of_batch}

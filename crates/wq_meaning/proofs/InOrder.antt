@@ -4,7 +4,7 @@ use Rattle.wq_meaning.proofs.Common.{arith, if◌then◌else◌, cond, filter, N
 use Rattle.wq_meaning.proofs.Common.{is_too_far, table_with, table_without, table_at, Command, queues_now, arm_table, modify_table, ScriptState}
 use Rattle.wq_meaning.proofs.Common.{opening_state, state_after, after_row, ◌++◌, ◌≤◌, get_or, due_part, draining, post_table, advance_table}
 use Rattle.wq_words.specs.DelayTable.{later_part}
-use Rattle.std.proofs.lemmas.Bool.{cases_lt, lt-ltb, le-ltb, false≢true, leb-true, leb-false}
+use Rattle.std.proofs.lemmas.Bool.{cases_lt, lt-ltb, le-ltb, false≢true, leb-true, leb-false, not-true}
 use Rattle.std.proofs.lemmas.List.Elements.{All-append, filter_passes}
 use Rattle.std.proofs.lemmas.List.Kept.{AllPairs-cons, AllPairs-filter}
 use Rattle.wq_text.specs.declared.command.Command.TheVariants as command
@@ -99,13 +99,9 @@ order_append (e ∷ es) fs first second before =
 due_first : (tick : ℕ) (es : List Entry) → All (λ e. All (IsBefore e) (later_part tick es)) (due_part tick es)
 due_first tick es i d lt j c below =
     let now : (get_or (due_part tick es) i d).due ≤ tick = leb-true _ _ (filter_passes (λ e. nat_le e.due tick) es i d lt) in
-    let no = not_is _ (filter_passes (λ e. not (nat_le e.due tick)) es j c below) in
+    let no = not-true _ (filter_passes (λ e. not (nat_le e.due tick)) es j c below) in
     let later : tick < (get_or (later_part tick es) j c).due = leb-false _ _ no in
     (omega (arith, now, later), λ is. absurd (omega (arith, is, now, later)))
-  where
-    not_is : (b : Bool) → not b ≡ true → b ≡ false
-    not_is true is = sym is
-    not_is false is = refl
 
 -- what is due stays in front of what is not
 kept_left : (tick : ℕ) (t : DelayTable) → Kept t → Kept (table_at tick (due_part tick t.entries) t)

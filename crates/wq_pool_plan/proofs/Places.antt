@@ -1,7 +1,7 @@
 -- What holds at the places of lists.
 use Rattle.wq_pool_plan.proofs.Common.{◌≡◌, ℕ, ◌+◌, ◌<◌, ◌≤◌, List, [], ◌∷◌, ◌++◌, length, take, get_or, inl, inr, sym, ap, ◌∙◌, subst, arith, length-append}
 use Rattle.wq_pool_plan.proofs.Common.{cases_lt, get_or_append_left, get_or_push, take_more}
-use Rattle.wq_words.proofs.Growing.{ends_alike}
+use Rattle.std.proofs.lemmas.List.{same_from_push}
 
 -- what holds of the elements of two lists at each place holds where one comes behind each
 pub both_more : {A B : Type 0} (P : ℕ → A → B → Type 0) (xs : List A) (ys : List B) (x : A) (y : B) → length ys ≡ length xs
@@ -22,4 +22,4 @@ pub popped : {A : Type 0} (all old new : List A) (x : A) (k m : ℕ) → m ≡ k
     → (new ≡ take k all) × (x ≡ get_or all k x)
 popped all old new x k m next within first last =
     let at : take m all ≡ take (k + 1) all = ap (λ (n : ℕ). take n all) next in
-    ends_alike new (take k all) x (get_or all k x) (sym last ∙ (first ∙ (at ∙ take_more all k x (omega (arith, next, within)))))
+    same_from_push new (take k all) x (get_or all k x) (sym last ∙ (first ∙ (at ∙ take_more all k x (omega (arith, next, within)))))

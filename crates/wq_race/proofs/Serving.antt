@@ -15,6 +15,7 @@ use Rattle.wq_worker.proofs.Owned.{owner_of_both, quiet_stays}
 use Rattle.wq_words.proofs.Running.{runs_from_running as runs_some}
 use Rattle.wq_worker.specs.Destroy.{Destroys, LeavesUnfinished}
 use Rattle.wq_race.proofs.Still.{Still, still_on, still_taking, still_one, still_begun}
+use Rattle.wq_words.proofs.Lists.{none_cons}
 
 own_of_ours : (s : ℕ) (es : List Event) → own s (filter (is_ours s) es) ≡ own s es
 own_of_ours s es = filter-filter (λ e. seat_of e == s) (is_ours s) (λ e is. (or_parts (seat_of e == s) (seat_of e == owner_seat) is).0) es
@@ -97,10 +98,6 @@ moves_plain xs n a b s idle m =
       idle = idle;
       legal = λ legal. m.legal;
     }
-
-none_cons : (xs : List ℕ) (x : ℕ) (ys : List ℕ) → xs ++ x ∷ ys ≡ [] → ⊥
-none_cons [] x ys is = cc
-none_cons (z ∷ xs) x ys is = cc
 
 module _ (may : Idle → ℕ → List ℕ → Idle → Type 0) (asks_nothing : (w : Idle) (k : ℕ) (f : List ℕ) (v : Idle) → may w k f v → f ≡ []) where
   record Started (a : WorkerState Idle) (f : List ℕ) (es : List Event) : Type 0 where

@@ -8,9 +8,7 @@ use Rattle.std.proofs.lemmas.List.{length-drop, take-append-drop, get_or-append-
 use Rattle.std.proofs.Math.Seq.{take-append_seam}
 use Rattle.wq_recording.proofs.LastLine.{last_long}
 use Rattle.wq_recording.proofs.Reading.{long_is, too_long}
-
-same_some : {B : Type 0} {b c : B} → Some b ≡ Some c → b ≡ c
-same_some e = cc
+use Rattle.wq_words.proofs.Cases.{same_some, same_err, clash}
 
 -- a part with others behind it, and another text of the same lines as far as this one
 record IsAlso {A : Type 0} (gives : Lines A) (other : List ℕ) (n : ℕ) (s : Stage) (asked : List A) (line : List ℕ) : Type 0 where
@@ -110,18 +108,12 @@ module _ {A E : Type 0} (gives : Lines A) (rules : Rules A E) (text other : List
     where
       none : {m : ℕ} → None ≡ Some m → ⊥
       none e = cc
-  found_also v (Some stop) n x is more same = stops_also v stop n x (same_some is) more same
+  found_also v (Some stop) n x is more same = stops_also v stop n x (same_some _ _ is) more same
 
   pub decided : (n : ℕ) (v : Result (Verdict E) ScriptError) → HasVerdict gives rules text v → deciding_line v ≡ Some n → n < length (parts text)
       → n < length (parts other) → take n (parts other) ≡ take n (parts text) → HasVerdict gives rules other v
   decided n (Ok v) x is long more same = found_also v v.stop n x is more same
-  decided n (Err e) x is long more same = refused_also e n x (same_some is) long more same
-
-same_err : {E B : Type 0} {b c : E} → ◌≡◌ {A = Result B E} (Err b) (Err c) → b ≡ c
-same_err e = cc
-
-clash : {E B : Type 0} {b : B} {e : E} → ◌≡◌ {A = Result B E} (Ok b) (Err e) → ⊥
-clash e = cc
+  decided n (Err e) x is long more same = refused_also e n x (same_some _ _ is) long more same
 
 part_at : (ps before rest : List (List ℕ)) (n : ℕ) → ps ≡ before ++ rest → n ≡ 1 + length before → get_or ps (n - 1) [] ≡ get_or rest 0 []
 part_at ps before rest n split number =
@@ -141,7 +133,7 @@ module _ {A E : Type 0} (inner : Lines A) (rules : Rules A E) (text other : List
 
   size_is : (s : Stage) (line : List ℕ) (behind : List (List ℕ)) (k : Kind) → 4096 < length line
       → HasFaultAt (short_line inner) rules text s line behind k → k ≡ kind.Size
-  size_is s line [] k long fault = same_some (sym fault ∙ last_long s line long)
+  size_is s line [] k long fault = same_some _ _ (sym fault ∙ last_long s line long)
   size_is s line (p ∷ ps) k long fault = same_err (sym fault ∙ long_is inner s line long)
 
   long_also : (e : ScriptError) → IsRefusedText (short_line inner) rules text e → IsTooLongAt e.line text → IsTooLongAt e.line other
@@ -187,7 +179,7 @@ module _ {A E : Type 0} (inner : Lines A) (rules : Rules A E) (text other : List
     where
       none : {m : ℕ} → None ≡ Some m → ⊥
       none e = cc
-  never_found v (Some stop) n x is long = never_stops v stop x (subst (λ (k : ℕ). IsTooLongAt k text) (sym (same_some is)) long)
+  never_found v (Some stop) n x is long = never_stops v stop x (subst (λ (k : ℕ). IsTooLongAt k text) (sym (same_some _ _ is)) long)
 
   pub decided_by_length : (n : ℕ) (v : Result (Verdict E) ScriptError) → HasVerdict (short_line inner) rules text v → deciding_line v ≡ Some n
       → IsTooLongAt n text → IsTooLongAt n other → take (n - 1) (parts other) ≡ take (n - 1) (parts text)
@@ -195,5 +187,5 @@ module _ {A E : Type 0} (inner : Lines A) (rules : Rules A E) (text other : List
   decided_by_length n (Ok v) x is long more same = absurd (never_found v v.stop n x is long)
   decided_by_length n (Err e) x is long more same =
       let P : ℕ → Type 0 = λ k. IsTooLongAt k text × IsTooLongAt k other × (take (k - 1) (parts other) ≡ take (k - 1) (parts text)) in
-      let here = subst P (sym (same_some is)) (long, more, same) in
+      let here = subst P (sym (same_some _ _ is)) (long, more, same) in
       long_also e x here.0 here.1 here.2

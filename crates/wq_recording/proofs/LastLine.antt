@@ -1,8 +1,8 @@
 -- What is wrong with what no LF ends.
-use Rattle.wq_recording.proofs.Common.{◌≡◌, ℕ, ◌<◌, ◌≤◌, true, false, List, [], ◌∷◌, length, Some, refl, sym, ap, subst, arith, Stage, ScriptError}
+use Rattle.wq_recording.proofs.Common.{◌≡◌, ℕ, ◌<◌, ◌≤◌, false, List, [], ◌∷◌, length, Some, refl, sym, ap, subst, arith, Stage, ScriptError}
 use Rattle.wq_recording.proofs.Common.{last_fault, end_fault}
 use Rattle.std.proofs.Common.{if◌then◌else◌, ◌==◌}
-use Rattle.std.proofs.lemmas.Bool.{eqb-true, eqb-false, le-leb, lt-leb}
+use Rattle.std.proofs.lemmas.Bool.{eqb-false, le-leb, lt-leb}
 use Rattle.wq_text.specs.declared.fault.Kind.TheVariants as kind
 use Rattle.wq_text.specs.declared.fault.ParseError.{ParseError}
 use Rattle.wq_text.specs.Fault.{RefusedFor}
@@ -14,10 +14,6 @@ last_long s (b ∷ bs) lt = ap (λ t. Some (if t then kind.Cut else kind.Size)) 
 pub last_cut : (s : Stage) (line : List ℕ) → length line ≤ 4096 → (length line == 0) ≡ false → last_fault s line ≡ Some kind.Cut
 last_cut s [] le some = absurd (eqb-false 0 0 some refl)
 last_cut s (b ∷ bs) le some = ap (λ t. Some (if t then kind.Cut else kind.Size)) (le-leb (length (b ∷ bs)) 4096 le)
-
-pub nothing_left : (line : List ℕ) → (length line == 0) ≡ true → line ≡ []
-nothing_left [] none = refl
-nothing_left (b ∷ bs) none = absurd (omega (arith, eqb-true (length (b ∷ bs)) 0 none))
 
 -- where nothing is left, the fault is that of the end
 pub ends_refused : (s : Stage) (n : ℕ) (line : List ℕ) (e : ParseError) → line ≡ []

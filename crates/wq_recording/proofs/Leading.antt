@@ -1,17 +1,15 @@
 -- What lines lead to and ask for is one, and goes through each of them.
-use Rattle.wq_recording.proofs.Common.{◌≡◌, ℕ, List, [], ◌∷◌, ◌++◌, Option, Result, Ok, refl, sym, ap, subst, ◌∙◌, append_assoc, option_to_list}
+use Rattle.wq_recording.proofs.Common.{◌≡◌, ℕ, List, [], ◌∷◌, ◌++◌, Option, Ok, refl, sym, ap, subst, ◌∙◌, append_assoc, option_to_list}
 use Rattle.wq_recording.proofs.Common.{Layout, Stage, Lines, LinesLead}
 use Rattle.wq_text.specs.declared.header.Stage.TheVariants as stage
-
-pub one_value : {E B : Type 0} {b c : B} → ◌≡◌ {A = Result B E} (Ok b) (Ok c) → b ≡ c
-one_value e = cc
+use Rattle.wq_words.proofs.Cases.{same_ok}
 
 module _ {A : Type 0} (gives : Lines A) where
   pub same_lead : (s t r : Stage) (lines : List (List ℕ)) (asked others : List A) → LinesLead gives s lines t asked → LinesLead gives s lines r others
       → (t ≡ r) × (asked ≡ others)
   same_lead s t r [] asked others x y = (sym x.0 ∙ y.0, x.1 ∙ sym y.1)
   same_lead s t r (line ∷ lines) asked others x y =
-      let next : y.0 ≡ x.0 = one_value (sym y.2 ∙ x.2) in
+      let next : y.0 ≡ x.0 = same_ok (sym y.2 ∙ x.2) in
       let P : Stage × Option A → Type 0 = λ z. LinesLead gives z.0 lines r y.1 in
       let more = same_lead x.0.0 t r lines x.1 y.1 x.4 (subst P next y.4) in
       let also : others ≡ option_to_list x.0.1 ++ y.1 = y.3 ∙ ap (λ (z : Stage × Option A). option_to_list z.1 ++ y.1) next in

@@ -3,20 +3,13 @@ use Rattle.wq_recording.proofs.Common.{◌≡◌, ◌≢◌, ℕ, ◌+◌, List,
 use Rattle.wq_recording.proofs.Common.{inl, inr, flat_map, option_to_list, append_assoc, append-nil, Layout, Cause, Kind, ScriptError, Stage, Lines}
 use Rattle.wq_recording.proofs.Common.{LinesLead, layout_at, Stop, Rules, Verdict, IsLineAt, IsLegalText, StopsWith, IsRefusedText, HasVerdict}
 use Rattle.wq_recording.proofs.Common.{HasFaultAt}
-use Rattle.wq_recording.proofs.Leading.{one_value, same_lead, LeadsThrough, through, stays_through}
+use Rattle.wq_recording.proofs.Leading.{same_lead, LeadsThrough, through, stays_through}
 use Rattle.wq_recording.proofs.Places.{Places, places}
 use Rattle.wq_text.specs.declared.header.Stage.TheVariants as stage
-use Rattle.wq_text.proofs.Outcomes.{whole_or_not, some_left, same_error}
+use Rattle.wq_text.proofs.Outcomes.{whole_or_not, same_error}
 use Rattle.std.proofs.lemmas.Grind.{flat_map-append}
-
-same_some : {B : Type 0} {b c : B} → Some b ≡ Some c → b ≡ c
-same_some e = cc
-
-same_err : {E B : Type 0} {b c : E} → ◌≡◌ {A = Result B E} (Err b) (Err c) → b ≡ c
-same_err e = cc
-
-clash : {E B : Type 0} {b : B} {e : E} → ◌≡◌ {A = Result B E} (Ok b) (Err e) → ⊥
-clash e = cc
+use Rattle.wq_words.proofs.Lists.{none_cons}
+use Rattle.wq_words.proofs.Cases.{same_some, same_ok, same_err, clash}
 
 same_stop : (x y : Stop) → x.line ≡ y.line → x.cause ≡ y.cause → x ≡ y
 same_stop x y p q = λ i. record { line = p i; cause = q i }
@@ -42,13 +35,13 @@ module _ {A E : Type 0} (gives : Lines A) (rules : Rules A E) (fit : AreFit give
   stop_passed layout events stop x more t asked tail leads legal =
       let y = through gives stage.Version t x.at.before x.line more asked leads in
       let same = same_lead gives stage.Version x.reached y.reached x.at.before x.asked y.first x.at.leads y.leads in
-      let one : (y.next, y.one) ≡ (x.next, Some x.one) = one_value (sym y.given ∙ ap (λ s. gives s x.line) (sym same.0) ∙ x.given) in
+      let one : (y.next, y.one) ≡ (x.next, Some x.one) = same_ok (sym y.given ∙ ap (λ s. gives s x.line) (sym same.0) ∙ x.given) in
       let c = fit.asks x.reached x.next x.one x.line x.given in
       let next : y.next ≡ stage.Commands c.0 = ap (λ (z : Stage × Option A). z.0) one ∙ c.1 in
       let told : y.one ≡ Some x.one = ap (λ (z : Stage × Option A). z.1) one in
       let P : Stage → Type 0 = λ s. LinesLead gives s more t y.rest in
       let at_end : t ≡ stage.Commands c.0 = stays_through gives fit.stays c.0 more t y.rest (subst P next y.goes) in
-      let has : c.0 ≡ layout = same_some (sym (ap layout_at c.1) ∙ x.whole) in
+      let has : c.0 ≡ layout = same_some _ _ (sym (ap layout_at c.1) ∙ x.whole) in
       let others = flat_map rules.tells y.rest in
       let first = flat_map rules.tells x.asked in
       let all : flat_map rules.tells asked ≡ first ++ ((x.first ++ x.event ∷ x.rest) ++ others) =
@@ -93,7 +86,7 @@ module _ {A E : Type 0} (gives : Lines A) (rules : Rules A E) (fit : AreFit give
   legal_of_text layout events x = λ l e.
       let P : Layout → Type 0 = λ m. rules.IsLegal m events in
       let Q : List E → Type 0 = λ h. rules.IsLegal l h in
-      subst Q (x.events_are ∙ sym (append-nil (flat_map rules.tells x.asked))) (subst P (same_some (sym x.whole ∙ ap layout_at e)) x.legal)
+      subst Q (x.events_are ∙ sym (append-nil (flat_map rules.tells x.asked))) (subst P (same_some _ _ (sym x.whole ∙ ap layout_at e)) x.legal)
 
   legal_of_stop : (layout : Layout) (events : List E) (stop : Stop) (x : StopsWith gives rules text layout events stop) → LegalTo x.reached x.asked x.first
   legal_of_stop layout events stop x = λ l e.
@@ -101,7 +94,7 @@ module _ {A E : Type 0} (gives : Lines A) (rules : Rules A E) (fit : AreFit give
       let Q : List E → Type 0 = λ h. rules.IsLegal l h in
       let G : Stage → Type 0 = λ s. gives s x.line ≡ Ok (x.next, Some x.one) in
       let next = fit.stays l x.line x.next (Some x.one) (subst G e x.given) in
-      subst Q x.events_are (subst P (same_some (sym x.whole ∙ ap layout_at next)) x.legal)
+      subst Q x.events_are (subst P (same_some _ _ (sym x.whole ∙ ap layout_at next)) x.legal)
 
   legal_of_refused : (e : ScriptError) (x : IsRefusedText gives rules text e) → LegalTo x.reached x.asked []
   legal_of_refused e x = λ l is.
@@ -113,16 +106,16 @@ module _ {A E : Type 0} (gives : Lines A) (rules : Rules A E) (fit : AreFit give
       by_place : Places x.at.before y.at.before [] [] [] [] → (l ≡ m) × (h ≡ k)
       by_place (inl s) =
           let same = one_lead x.reached y.reached x.asked y.asked x.at.before y.at.before s.before x.at.leads y.at.leads in
-          (same_some (sym x.whole ∙ ap layout_at same.0 ∙ y.whole), x.events_are ∙ ap (flat_map rules.tells) same.1 ∙ sym y.events_are)
-      by_place (inr (inl s)) = absurd (some_left s.more [] [] (sym s.after))
-      by_place (inr (inr s)) = absurd (some_left s.more [] [] (sym s.after))
+          (same_some _ _ (sym x.whole ∙ ap layout_at same.0 ∙ y.whole), x.events_are ∙ ap (flat_map rules.tells) same.1 ∙ sym y.events_are)
+      by_place (inr (inl s)) = absurd (none_cons s.more [] [] (sym s.after))
+      by_place (inr (inr s)) = absurd (none_cons s.more [] [] (sym s.after))
 
   legal_stops : (l m : Layout) (h k : List E) (stop : Stop) → IsLegalText gives rules text l h → StopsWith gives rules text m k stop → ⊥
   legal_stops l m h k stop x y = by_place (cut x.number stop.line x.reached y.reached x.asked y.asked [] y.line [] y.behind x.at y.at)
     where
       by_place : Places x.at.before y.at.before [] y.line [] y.behind → ⊥
       by_place (inl s) = y.ended (sym s.after)
-      by_place (inr (inl s)) = some_left s.more y.line y.behind (sym s.after)
+      by_place (inr (inl s)) = none_cons s.more y.line y.behind (sym s.after)
       by_place (inr (inr s)) =
           stop_passed m k stop y s.more x.reached x.asked [] (led x.reached x.asked x.at.before _ s.before x.at.leads) (legal_of_text l h x)
 
@@ -136,9 +129,9 @@ module _ {A E : Type 0} (gives : Lines A) (rules : Rules A E) (fit : AreFit give
           let Q : List ℕ → Type 0 = λ line. HasFaultAt gives rules text x.reached line y.behind e.kind in
           let R : List (List ℕ) → Type 0 = λ ps. HasFaultAt gives rules text x.reached [] ps e.kind in
           whole_or_not x.reached l e.kind x.whole (subst R (sym s.after) (subst Q (sym s.here) (subst P (sym same.0) y.fault)))
-      by_place (inr (inl s)) = some_left s.more y.line y.behind (sym s.after)
+      by_place (inr (inl s)) = none_cons s.more y.line y.behind (sym s.after)
       by_place (inr (inr s)) =
-          fault_passed e y s.more x.reached x.asked (λ none. some_left s.more [] [] (sym s.after ∙ none))
+          fault_passed e y s.more x.reached x.asked (λ none. none_cons s.more [] [] (sym s.after ∙ none))
           (led x.reached x.asked x.at.before _ s.before x.at.leads)
 
   -- of one line the first event that is not legal is one
@@ -168,9 +161,9 @@ module _ {A E : Type 0} (gives : Lines A) (rules : Rules A E) (fit : AreFit give
       by_place (inl s) =
           let same = one_lead x.reached y.reached x.asked y.asked x.at.before y.at.before s.before x.at.leads y.at.leads in
           let one : (x.next, Some x.one) ≡ (y.next, Some y.one) =
-          one_value (sym x.given ∙ ap (λ t. gives t x.line) same.0 ∙ ap (gives y.reached) s.here ∙ y.given) in
-          let layout : l ≡ m = same_some (sym x.whole ∙ ap (λ (z : Stage × Option A). layout_at z.0) one ∙ y.whole) in
-          let told : x.one ≡ y.one = same_some (ap (λ (z : Stage × Option A). z.1) one) in
+          same_ok (sym x.given ∙ ap (λ t. gives t x.line) same.0 ∙ ap (gives y.reached) s.here ∙ y.given) in
+          let layout : l ≡ m = same_some _ _ (sym x.whole ∙ ap (λ (z : Stage × Option A). layout_at z.0) one ∙ y.whole) in
+          let told : x.one ≡ y.one = same_some _ _ (ap (λ (z : Stage × Option A). z.1) one) in
           let first = flat_map rules.tells x.asked in
           let others = flat_map rules.tells y.asked in
           let before : others ≡ first = ap (flat_map rules.tells) (sym same.1) in
@@ -210,13 +203,13 @@ module _ {A E : Type 0} (gives : Lines A) (rules : Rules A E) (fit : AreFit give
       by_place (inr (inl s)) =
           stop_passed l h stop x s.more y.reached y.asked [] (led y.reached y.asked y.at.before _ s.before y.at.leads) (legal_of_refused e y)
       by_place (inr (inr s)) =
-          fault_passed e y s.more x.reached x.asked (λ none. some_left s.more x.line x.behind (sym s.after ∙ none))
+          fault_passed e y s.more x.reached x.asked (λ none. none_cons s.more x.line x.behind (sym s.after ∙ none))
           (led x.reached x.asked x.at.before _ s.before x.at.leads)
 
   fault_once : (s : Stage) (line : List ℕ) (behind : List (List ℕ)) (k j : Kind) → HasFaultAt gives rules text s line behind k
       → HasFaultAt gives rules text s line behind j → k ≡ j
   fault_once s line (next ∷ more) k j fault too = same_err (sym fault ∙ too)
-  fault_once s line [] k j fault too = same_some (sym fault ∙ too)
+  fault_once s line [] k j fault too = same_some _ _ (sym fault ∙ too)
 
   both_refused : (e f : ScriptError) → IsRefusedText gives rules text e → IsRefusedText gives rules text f → e ≡ f
   both_refused e f x y = by_place (cut e.line f.line x.reached y.reached x.asked y.asked x.line y.line x.behind y.behind x.at y.at)
@@ -230,10 +223,10 @@ module _ {A E : Type 0} (gives : Lines A) (rules : Rules A E) (fit : AreFit give
           let too = subst R (sym s.after) (subst Q (sym s.here) (subst P (sym same.0) y.fault)) in
           same_error e f (x.at.number ∙ ap (λ ls. 1 + length ls) s.before ∙ sym y.at.number) (fault_once x.reached x.line x.behind e.kind f.kind x.fault too)
       by_place (inr (inl s)) =
-          absurd (fault_passed e x s.more y.reached y.asked (λ none. some_left s.more y.line y.behind (sym s.after ∙ none))
+          absurd (fault_passed e x s.more y.reached y.asked (λ none. none_cons s.more y.line y.behind (sym s.after ∙ none))
           (led y.reached y.asked y.at.before _ s.before y.at.leads))
       by_place (inr (inr s)) =
-          absurd (fault_passed f y s.more x.reached x.asked (λ none. some_left s.more x.line x.behind (sym s.after ∙ none))
+          absurd (fault_passed f y s.more x.reached x.asked (λ none. none_cons s.more x.line x.behind (sym s.after ∙ none))
           (led x.reached x.asked x.at.before _ s.before x.at.leads))
 
   found_once : (l m : Layout) (h k : List E) (o p : Option Stop)

@@ -3,15 +3,13 @@ use Rattle.wq_text.proofs.Common.{◌≡◌, ℕ, ◌+◌, ◌⊎◌, List, [], 
 use Rattle.wq_text.proofs.Common.{option_to_list, Layout, Kind, ScriptError, Stage, layout_at, Lines, LinesLead, Spells, end_fault, HasLineFault, IsRefusal}
 use Rattle.wq_text.proofs.Common.{HasOneOutcome}
 use Rattle.wq_text.specs.declared.header.Stage.TheVariants as stage
+use Rattle.wq_words.proofs.Lists.{none_cons}
+use Rattle.wq_words.proofs.Cases.{same_some, same_ok, same_err, clash}
 
 -- a header that is whole has no fault
 pub whole_or_not : (s : Stage) (layout : Layout) (k : Kind) → layout_at s ≡ Some layout → end_fault s ≡ Some k → ⊥
 whole_or_not stage.Version layout k whole fault = cc
 whole_or_not _ layout k whole fault = cc
-
-pub some_left : (lines : List (List ℕ)) (line : List ℕ) (behind : List (List ℕ)) → lines ++ line ∷ behind ≡ [] → ⊥
-some_left [] line behind e = cc
-some_left (first ∷ lines) line behind e = cc
 
 heads : {a b : List ℕ} {xs ys : List (List ℕ)} → a ∷ xs ≡ b ∷ ys → a ≡ b
 heads e = cc
@@ -37,12 +35,9 @@ module _ {A : Type 0} (gives : Lines A) where
 
   goes_on : (s t : Stage) (line other : List ℕ) (behind lines rest : List (List ℕ)) (f : List ℕ) (x : Stage × Option A) → s ≡ t
       → line ∷ behind ≡ other ∷ (lines ++ f ∷ rest) → gives s other ≡ Ok x → Stops t line behind → ⊥
-  goes_on s t line other behind lines rest f x here same given (inl none) = some_left lines f rest (sym (tails same) ∙ none)
+  goes_on s t line other behind lines rest f x here same given (inl none) = none_cons lines f rest (sym (tails same) ∙ none)
   goes_on s t line other behind lines rest f x here same given (inr stop) =
       clash (sym given ∙ ap (gives s) (sym (heads same)) ∙ ap (λ r. gives r line) here ∙ stop.1)
-    where
-      clash : {E B : Type 0} {b : B} {e : E} → ◌≡◌ {A = Result B E} (Ok b) (Err e) → ⊥
-      clash e = cc
 
   stops_once : (s t r : Stage) (before lines : List (List ℕ)) (line other : List ℕ) (behind rest : List (List ℕ)) (asked others : List A)
       → before ++ line ∷ behind ≡ lines ++ other ∷ rest
@@ -55,16 +50,13 @@ module _ {A : Type 0} (gives : Lines A) where
   stops_once s t r (first ∷ before) [] line other behind rest asked others same leads leads_too stops stops_too =
       absurd (goes_on s r other first rest before behind line leads.0 leads_too.0 (sym same) leads.2 stops_too)
   stops_once s t r (first ∷ before) (second ∷ lines) line other behind rest asked others same leads leads_too stops stops_too =
-      let next : leads_too.0 ≡ leads.0 = one_value (sym leads_too.2 ∙ ap (gives s) (sym (heads same)) ∙ leads.2) in
+      let next : leads_too.0 ≡ leads.0 = same_ok (sym leads_too.2 ∙ ap (gives s) (sym (heads same)) ∙ leads.2) in
       let P : Stage × Option A → Type 0 = λ x. LinesLead gives x.0 lines r leads_too.1 in
       let more = stops_once leads.0.0 t r before lines line other behind rest leads.1 leads_too.1 (tails same) leads.4
       (subst P next leads_too.4) stops stops_too in
       let also : others ≡ option_to_list leads.0.1 ++ leads_too.1 = leads_too.3 ∙ ap (λ (x : Stage × Option A). option_to_list x.1 ++ leads_too.1) next in
       let asking = leads.3 ∙ ap (λ (xs : List A). option_to_list leads.0.1 ++ xs) more.asking ∙ sym also in
       record { reached = more.reached; asking = asking; faulty = more.faulty; after = more.after; number = omega (arith, more.number) }
-    where
-      one_value : {E B : Type 0} {b c : B} → ◌≡◌ {A = Result B E} (Ok b) (Ok c) → b ≡ c
-      one_value e = cc
 
   fault_stops : (s : Stage) (line : List ℕ) (behind : List (List ℕ)) (k : Kind) → HasLineFault gives s line behind k → Stops s line behind
   fault_stops s line [] k fault = inl refl
@@ -72,15 +64,9 @@ module _ {A : Type 0} (gives : Lines A) where
 
   fault_once : (s : Stage) (line : List ℕ) (behind : List (List ℕ)) (k j : Kind) → HasLineFault gives s line behind k
       → HasLineFault gives s line behind j → k ≡ j
-  fault_once s line (next ∷ more) k j fault too = same (sym fault ∙ too)
-    where
-      same : {E B : Type 0} {b c : E} → ◌≡◌ {A = Result B E} (Err b) (Err c) → b ≡ c
-      same e = cc
+  fault_once s line (next ∷ more) k j fault too = same_err (sym fault ∙ too)
   fault_once s (b ∷ bs) [] k j fault too = fault ∙ sym too
-  fault_once s [] [] k j fault too = same (sym fault ∙ too)
-    where
-      same : {E : Type 0} {b c : E} → Some b ≡ Some c → b ≡ c
-      same e = cc
+  fault_once s [] [] k j fault too = same_some _ _ (sym fault ∙ too)
 
   module _ (text : List ℕ) where
     spelled_once : (layout other : Layout) (asked others : List A) → Spells gives text layout asked → Spells gives text other others

@@ -9,6 +9,8 @@ use Rattle.wq_text.specs.declared.fault.Kind.TheVariants as kind
 use Rattle.wq_text.specs.declared.fault.ParseError.{ParseError}
 use Rattle.wq_text.specs.declared.fault.ParseError.TheVariants as errors
 use Rattle.wq_text.specs.declared.header.Stage.TheVariants as stage
+use Rattle.wq_words.proofs.Cases.{same_some}
+use Rattle.std.proofs.lemmas.List.{nil_from_length}
 
 one_step : (p : ℕ → Bool) (x : ℕ) (xs : List ℕ) (b : Bool) → p x ≡ b → (length xs ≤ position_or_len p xs → slice_split p xs ≡ xs ∷ [])
     → suc (length xs) ≤ cond (not b) (1 + position_or_len p xs) 0 → slice_split p (x ∷ xs) ≡ (x ∷ xs) ∷ []
@@ -32,15 +34,12 @@ pub one_line : (text : List ℕ) (end : ℕ) → Some end ≡ position (λ b. b 
     → (end < length text) × (parts text ≡ take end text ∷ parts (drop (end + 1) text))
 one_line text end e = elim (cases_lt (position_or_len (λ b. b == 10) text) (length text)) [
   | inl lt ↦
-      let same : end ≡ position_or_len (λ b. b == 10) text = some_same (rw (lt-ltb _ _ lt) at e) in
+      let same : end ≡ position_or_len (λ b. b == 10) text = same_some _ _ (rw (lt-ltb _ _ lt) at e) in
       let P : ℕ → Type 0 = λ n. (n < length text) × (parts text ≡ take n text ∷ parts (drop (n + 1) text)) in
       subst P (sym same) (lt, slice_split_first (λ b. b == 10) text 0 lt)
   | inr le ↦ absurd (differ (rw (le-ltb _ _ le) at e))
 ]
   where
-    some_same : {m n : ℕ} → Some m ≡ Some n → m ≡ n
-    some_same e = cc
-
     differ : {n : ℕ} → Some n ≡ None → ⊥
     differ e = cc
 
@@ -118,17 +117,13 @@ module _ {A : Type 0} (gives : Lines A) where
       unended [] some = absurd (eqb-false 0 0 some refl)
       unended (b ∷ bs) some = is_cut
 
-  nothing_left : (rest : List ℕ) → (length rest == 0) ≡ true → rest ≡ []
-  nothing_left [] none = refl
-  nothing_left (b ∷ bs) none = absurd (omega (arith, eqb-true (length (b ∷ bs)) 0 none))
-
   pub no_header : (text rest : List ℕ) (n : ℕ) (s : Stage) (asked : List A) (e : ScriptError) → length text ≤ most_bytes → IsReadTo text rest n s asked
       → parts rest ≡ rest ∷ [] → (length rest == 0) ≡ true → e.line ≡ n → end_fault s ≡ Some e.kind → IsRefusal gives text e
   no_header text rest n s asked e short read last none here fault =
-      faulty_at text rest [] [] n s asked e short read (last ∙ ap (λ (x : List ℕ). x ∷ []) (nothing_left rest none)) here fault
+      faulty_at text rest [] [] n s asked e short read (last ∙ ap (λ (x : List ℕ). x ∷ []) (nil_from_length rest (eqb-true (length rest) 0 none))) here fault
 
   pub spelled : (text rest : List ℕ) (n : ℕ) (s : Stage) (layout : Layout) (asked : List A) → length text ≤ most_bytes → IsReadTo text rest n s asked
       → parts rest ≡ rest ∷ [] → (length rest == 0) ≡ true → layout_at s ≡ Some layout → Spells gives text layout asked
   spelled text rest n s layout asked short read last none whole =
-      let split = read.split ∙ ap (λ ps. read.before ++ ps) (last ∙ ap (λ (x : List ℕ). x ∷ []) (nothing_left rest none)) in
+      let split = read.split ∙ ap (λ ps. read.before ++ ps) (last ∙ ap (λ (x : List ℕ). x ∷ []) (nil_from_length rest (eqb-true (length rest) 0 none))) in
       record { short = short; lines = read.before; reached = s; split = split; leads = read.leads; whole = whole }

@@ -2,7 +2,7 @@
 use Rattle.wq_value_worker.proofs.Common.{◌≡◌, ℕ, ◌+◌, List, [], ◌∷◌, ◌++◌, length, sym, ap, ◌∙◌, length-append, Layout, new_senders}
 use Rattle.std.proofs.Common.{map}
 use Rattle.std.proofs.lemmas.List.{length-map}
-use Rattle.wq_words.proofs.Growing.{ends_alike}
+use Rattle.std.proofs.lemmas.List.{same_from_push}
 use Rattle.wq_values.specs.Known.{QueueId, new_sender}
 use Rattle.wq_values.specs.KnownWith.{KnownWith, knowing_nothing}
 use Rattle.wq_calls.proofs.Built.{values-more}
@@ -17,4 +17,5 @@ values_less {V} q l m xs ys b made one =
     let count : m ≡ length ys + 1 =
     sym (length-new_senders q l m) ∙ (sym (length-map (new_senders q l m) (knowing_nothing {V = V})) ∙
     (ap length (sym made ∙ one) ∙ length-append ys (b ∷ []))) in
-    ends_alike ys (row (length ys)) b (knowing_nothing (new_sender q l (length ys))) (sym one ∙ (made ∙ (ap row count ∙ sym (values-more V q l (length ys)))))
+    same_from_push ys (row (length ys)) b (knowing_nothing (new_sender q l (length ys)))
+    (sym one ∙ (made ∙ (ap row count ∙ sym (values-more V q l (length ys)))))

@@ -5,6 +5,7 @@ use Rattle.wq_words.proofs.Common.{length-reverse, get_or-reverse, cases_lt, fil
 use Rattle.wq_words.proofs.Common.{prefix_len_stops, Event, Push, Take, Rest, accepted, accepted_by, begun, begun_by, ended, ended_by, fresh, is_push, is_chain}
 use Rattle.wq_words.proofs.Common.{is_cut}
 use Rattle.wq_words.proofs.Lasts.{after_last_push_no}
+use Rattle.std.proofs.lemmas.Bool.{not-false}
 
 pub count_by-append : {X : Type 0} (p : X → Bool) (xs ys : List X) → count_by p (xs ++ ys) ≡ count_by p xs + count_by p ys
 count_by-append p xs ys = sum_by-append (λ x. cond (p x) 1 0) xs ys
@@ -37,10 +38,6 @@ accepted-count (e ∷ es) = omega (arith, accepted-cons e es, count_by-append is
 -- the last Take, Drain or Resume stands between what is before it and what is after it
 last_take : (h : List Event) (n : ℕ) → n < length h → not (is_cut (get_or (reverse h) n Take)) ≡ false → is_cut (get_or h (length h - 1 - n) Take) ≡ true
 last_take h n lt e = let same = get_or-reverse h n Take lt in not-false _ (ap (λ x. not (is_cut x)) (sym same) ∙ e)
-  where
-    not-false : (b : Bool) → not b ≡ false → b ≡ true
-    not-false true e = refl
-    not-false false e = sym e
 
 no_push : (e : Event) → is_cut e ≡ true → count_by is_push (e ∷ []) ≡ 0
 no_push (Push s k) e = cc

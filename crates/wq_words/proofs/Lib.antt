@@ -1,4 +1,6 @@
 pub mod Common
+pub mod Lists
+pub mod Cases
 pub mod Prefixes
 pub mod Growing
 pub mod Written

@@ -23,6 +23,7 @@ use Rattle.wq_worker.specs.declared.drained.Drained.TheVariants.{Empty, TooLong}
 use Rattle.wq_worker.proofs.Owned.{owner_of_both}
 use Rattle.wq_worker.proofs.Rows.{worker_still, worker_on, moves_same}
 use Rattle.wq_worker.proofs.State.{quiet_taking}
+use Rattle.wq_words.proofs.Lists.{none_cons}
 
 -- the sender s made none of these events, and the owner chained no number by them and tried to chain none
 record IsSilent (s : ℕ) (xs : List Event) : Type 0 where
@@ -75,10 +76,6 @@ adds_on s t u v w same x y = record {
   unchained = y.unchained ∙ x.unchained;
   unasked = y.unasked ∙ x.unasked;
 }
-
-none_cons : (xs : List ℕ) (x : ℕ) (ys : List ℕ) → xs ++ x ∷ ys ≡ [] → ⊥
-none_cons [] x ys is = cc
-none_cons (z ∷ xs) x ys is = cc
 
 module _ {W : Type 0} where
   -- the same worker queued and chained no number, and nothing runs

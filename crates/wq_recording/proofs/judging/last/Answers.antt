@@ -1,6 +1,8 @@
-use Rattle.wq_recording.proofs.Common.{sym, ◌∙◌, refl, arith}
+use Rattle.wq_recording.proofs.Common.{length, sym, ◌∙◌, refl, arith}
+use Rattle.std.proofs.lemmas.Bool.{eqb-true}
+use Rattle.std.proofs.lemmas.List.{nil_from_length}
 use Rattle.std.proofs.lemmas.Result.{err_from_is_err_and, IfOk-weaker, IfErr-weaker}
-use Rattle.wq_recording.proofs.LastLine.{last_long, last_cut, nothing_left, ends_refused}
+use Rattle.wq_recording.proofs.LastLine.{last_long, last_cut, ends_refused}
 use Rattle.wq_recording.proofs.Telling.{told_legal}
 use Rattle.wq_recording.proofs.judging.last.Goals as goal
 
@@ -15,7 +17,7 @@ returns-then-not-is_empty-clause-refused g c =
 pub returns-in_err-layout-clause-refused : goal.returns-in_err-layout-clause-refused
 returns-in_err-layout-clause-refused g c =
     let rest = c.args.rest.now in
-    let none = nothing_left rest (sym c.is_empty.ensures ∙ c.if-not-is_empty.false) in
+    let none = nil_from_length rest (eqb-true (length rest) 0 (sym c.is_empty.ensures ∙ c.if-not-is_empty.false)) in
     let p = err_from_is_err_and c.from_residual.result c.from_residual.ensures.1 in
     rw (p.1, p.2) (ends_refused c.args.stage c.args.number rest c.in_err-layout.field-0.0 none c.in_err-layout.ensures.refused)
 
@@ -27,7 +29,7 @@ returns g c =
     let done = c.found_so_far.ensures in
     let layout = c.in_ok-layout.layout in
     let whole = c.in_ok-layout.ensures.whole in
-    let none = nothing_left c.args.rest.now (sym c.is_empty.ensures ∙ c.if-not-is_empty.false) in
+    let none = nil_from_length c.args.rest.now (eqb-true (length c.args.rest.now) 0 (sym c.is_empty.ensures ∙ c.if-not-is_empty.false)) in
     record {
       whole = IfOk-weaker c.found_so_far.result _ _ (λ finding stop. none) done.stop;
       stop = done.stop;

@@ -1,16 +1,12 @@
-use Rattle.wq_values.proofs.Common.{◌≡◌, ℕ, Bool, true, false, List, [], ◌∷◌, ◌++◌, length, map, if◌then◌else◌, ap, sym, refl, ◌∙◌, arith}
-use Rattle.wq_values.proofs.Common.{length-append, false≢true, ValueStanding, new_senders, knowing_nothing, sender_with}
-use Rattle.std.proofs.Common.{Result, Ok, Err}
-use Rattle.std.specs.Result.{is_ok, is_err}
+use Rattle.wq_values.proofs.Common.{◌≡◌, ℕ, Bool, true, false, List, [], ◌∷◌, ◌++◌, length, map, if◌then◌else◌, ap, sym, ◌∙◌, arith}
+use Rattle.wq_values.proofs.Common.{length-append, ValueStanding, new_senders, knowing_nothing, sender_with}
+use Rattle.std.specs.Result.{is_ok}
 use Rattle.std.proofs.lemmas.Iterator.Adapters.{YieldsList-from_vec}
 use Rattle.std.proofs.lemmas.Iterator.Consumers.{YieldsList-turn, YieldsList-end}
+use Rattle.wq_words.proofs.Cases.{ok_told}
 use Rattle.wq_calls.proofs.Built.{chair_at, chair_low, with_new, values-more, length-value_senders}
 use Rattle.wq_values.proofs.Made.{sender_of_values}
 use Rattle.wq_values.proofs.making.seat_value_senders.Goals as goal
-
-not_err : {T E : Type 0} (r : Result T E) → is_err r ≡ false → is_ok r ≡ true
-not_err (Ok x) e = refl
-not_err (Err y) e = absurd (false≢true (sym e))
 
 pub invariant_of-sender : goal.invariant_of-sender
 invariant_of-sender g c = let h = c.into_iter-chair-iterator.ensures.into_iter_gives in
@@ -45,7 +41,7 @@ loop-chair-preserved g c = let h = c.into_iter-chair-iterator.ensures.into_iter_
     (YieldsList-from_vec {s = c.into_iter-chair-iterator.result} c.args.seats.items h.0 (h.1 ∙ c.args.seats.ok.0)) l.yielded l.chair-iterator
     l.yielded_by c.next.result c.next.new.self c.in-Some.chair c.in-Some.is c.next.ensures.steps in
     let failed = c.is_err.ensures.value in let no : c.is_err.result ≡ false = c.if-is_err.false in
-    let ok : is_ok c.push.result ≡ true = not_err c.push.result (sym failed ∙ no) in (
+    let ok : is_ok c.push.result ≡ true = ok_told c.push.result (sym failed ∙ no) in (
       omega (arith, l.invariant.0, length-append l.yielded (c.in-Some.chair ∷ [])),
       λ q is. let view = with_new q c.args.layout l.number c.in-Some.chair c.new.result
           (chair_at q c.args.layout c.args.layout.senders c.args.seats.items (length l.yielded) l.number c.in-Some.chair is l.invariant.0 turn)

@@ -1,16 +1,12 @@
-use Rattle.wq_value_worker.proofs.Common.{rules, ◌≡◌, false, Option, Some, None, refl, sym, ◌∙◌, subst, IsRunning, Learnt, KnownValuePair, owner_of, taking}
+use Rattle.wq_value_worker.proofs.Common.{rules, ◌≡◌, Option, Some, None, refl, sym, ◌∙◌, subst, IsRunning, Learnt, KnownValuePair, owner_of, taking}
 use Rattle.wq_value_worker.proofs.Common.{BeginsValue, ValueWorkerState, owner_in}
-use Rattle.std.specs.Option.{is_some}
+use Rattle.wq_words.proofs.Cases.{none_told}
 use Rattle.wq_worker.specs.Step.{FindsNothing}
 use Rattle.wq_worker.proofs.State.{quiet_taking, idle_taken}
 use Rattle.wq_worker.proofs.Step.{moves_by}
 use Rattle.wq_value_worker.proofs.ValueState.{value_state_of, keeps_or, value_fit_both}
 use Rattle.wq_value_worker.proofs.Begun.{BeginsWith, begins_with, fit_item, fit_other, begins_item, begins_other}
 use Rattle.wq_value_worker.proofs.value_worker.ValueWorker.start.Goals as goal
-
-none_told : {A : Type 0} (o : Option A) → is_some o ≡ false → o ≡ None
-none_told None is = refl
-none_told (Some x) is = absurd (cc)
 
 pub invariant_of-self : goal.invariant_of-self
 invariant_of-self g c =
