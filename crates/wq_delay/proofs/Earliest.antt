@@ -3,8 +3,8 @@ use Rattle.wq_delay.proofs.Common.{◌≡◌, ℕ, ◌+◌, ◌%◌, ◌<◌, �
 use Rattle.wq_delay.proofs.Common.{◌==◌, slice_index, Some, None, All, Option, sym, refl, ap, ◌∙◌, subst, mod-lt, arith, nat_tests, get_or_read, get_or-set_same}
 use Rattle.wq_delay.proofs.Common.{get_or-set_other, length-set, Entry, on_table, Place, place_at, place_in, head_by, number_by, later_than, turn_of, SaysPlace}
 use Rattle.wq_delay.proofs.Common.{is_due, waiting, IsWheel, IsGathering, AreFound, StillWaits, IsClean, AreEarliest, WaitFrom, AreRings}
+use Rattle.std.proofs.lemmas.Option.{same_Some}
 use Rattle.wq_delay.proofs.Rounds.{at_or}
-use Rattle.wq_words.proofs.Cases.{same_some}
 use Rattle.wq_delay.proofs.Standing.{later_same, later_some}
 use Rattle.wq_delay.proofs.Looking.{waits_there, steps_left, steps_fewer}
 use Rattle.wq_delay.proofs.Finding.{turn_slot}
@@ -119,7 +119,7 @@ module _ (places : List (Option Place)) (next previous : List ℕ) (row : List E
           low = r.next_low x l.low;
           here = y_here;
           done = λ k o is slot below. at_or (λ v. w v ≡ Some o → s ≤ o.due) x k
-              (λ here. let e = same_some p o (sym at ∙ (waits_there places row x o here).1) in let f = ap (λ (v : Place). v.due) e in omega arith)
+              (λ here. let e = same_Some p o (sym at ∙ (waits_there places row x o here).1) in let f = ap (λ (v : Place). v.due) e in omega arith)
               (λ other there. between s less k o other there slot below) is;
         })
 
@@ -213,7 +213,7 @@ module _ (earliest earliest' : List ℕ) (places : List (Option Place)) (tick k 
     slots = ap (length {A = ℕ}) is ∙ (length-set earliest (due % 256) least ∙ a.slots);
     early = λ j p waits. at_or (λ z. later_than tick (place_in (set places k v) z) ≡ Some p → slice_index earliest' (p.due % 256) ≤ p.due) k j
         (λ here. let same : place_at due arming ≡ p =
-        same_some (place_at due arming) p (sym (get_or-set_same places k v None low) ∙ (later_same tick (place_in (set places k v) k) p here).0) in
+        same_Some (place_at due arming) p (sym (get_or-set_same places k v None low) ∙ (later_same tick (place_in (set places k v) k) p here).0) in
         subst (λ (z : Place). slice_index earliest' (z.due % 256) ≤ z.due) same noted)
         (λ other there. let old : later_than tick (place_in places j) ≡ Some p =
         ap (later_than tick) (sym (get_or-set_other places k j v None other)) ∙ there in

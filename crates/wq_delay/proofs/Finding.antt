@@ -3,9 +3,9 @@ use Rattle.wq_delay.proofs.Common.{◌≡◌, ℕ, ◌+◌, ◌-◌, ◌*◌, �
 use Rattle.wq_delay.proofs.Common.{nat_lt, nat_le, ◌==◌, slice_index, Some, None, Option, sym, refl, ap, ◌∙◌, subst, mod-lt, arith, mod-add-div'}
 use Rattle.wq_delay.proofs.Common.{add-mul-mod_self_right, nat_tests, get_or_read, Entry, on_table, Place, place_in, head_by, number_by, later_than, turn_of}
 use Rattle.wq_delay.proofs.Common.{IsWheel, AreOnTable, AreFound, entry_at, AreRings}
+use Rattle.std.proofs.lemmas.Option.{same_Some}
 use Rattle.wq_delay.proofs.Rounds.{at_or}
 use Rattle.wq_delay.proofs.Standing.{later_same, later_some}
-use Rattle.wq_words.proofs.Cases.{same_some}
 use Rattle.wq_delay.proofs.Looking.{or_false, on_push, steps_left, steps_fewer}
 use Rattle.wq_delay.proofs.Fitting.{place_low, more_on_table}
 
@@ -231,7 +231,7 @@ module _ (places : List (Option Place)) (next previous : List ℕ) (t now n head
       here = y_here;
       which = λ k p is. let passed : Bool = is_passed t n (is_behind head y p (number y)) p in
           at_or (λ z. place_in places z ≡ Some p → on_table z es ≡ (nat_le p.due now && passed)) x k
-          (λ at. let e = same_some o p (sym here ∙ at) in let f = ap (λ (z : Place). z.due) e in
+          (λ at. let e = same_Some o p (sym here ∙ at) in let f = ap (λ (z : Place). z.due) e in
           let later : nat_le p.due now ≡ false = grind (arith, nat_tests) in not_found ∙ sym (ap (λ (z : Bool). z && passed) later))
           (λ other at. other_which k p other at) is;
     }
@@ -245,7 +245,7 @@ module _ (places : List (Option Place)) (next previous : List ℕ) (t now n head
           here = y_here;
           which = λ k o is. ap (on_table k) es_is ∙ (on_push k es e ∙ at_or (λ z. place_in places z ≡ Some o
               → (on_table z es || (z == x)) ≡ (nat_le o.due now && is_passed t n (is_behind head y o (number y)) o)) x k
-              (λ here. own o (same_some q o (sym item_there.0 ∙ here)) (same_some p o (sym at ∙ here)))
+              (λ here. own o (same_Some q o (sym item_there.0 ∙ here)) (same_Some p o (sym at ∙ here)))
               (λ other there. let apart : (k == x) ≡ false = grind (arith, nat_tests) in
               ap (λ (z : Bool). on_table k es || z) apart ∙ (or_false (on_table k es) ∙ other_which k o other there)) is);
         }

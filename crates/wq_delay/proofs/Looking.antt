@@ -3,9 +3,9 @@ use Rattle.wq_delay.proofs.Common.{◌≡◌, ℕ, zero, suc, ◌+◌, ◌-◌, 
 use Rattle.wq_delay.proofs.Common.{nat_lt, ◌==◌, slice_index, Some, None, All, Option, sym, refl, ap, ◌∙◌, subst, arith, nat_tests, get_or_read, All-push}
 use Rattle.wq_delay.proofs.Common.{Entry, on_table, first_false, second_false, Place, place_in, head_by, number_by, entry_at, times, SaysPlace, waiting}
 use Rattle.wq_delay.proofs.Common.{IsGathering, StillWaits, IsClean, AreRings}
+use Rattle.std.proofs.lemmas.Option.{same_Some}
 use Rattle.wq_delay.proofs.Rounds.{at_or}
 use Rattle.wq_delay.proofs.Wheel.{wheel_without}
-use Rattle.wq_words.proofs.Cases.{same_some}
 
 pub or_false : (b : Bool) → (b || false) ≡ b
 or_false true = refl
@@ -194,7 +194,7 @@ module _ (places : List (Option Place)) (next previous : List ℕ) (start row : 
       low = r.next_low x l.low;
       here = y_here;
       done = λ k o is slot below. at_or (λ z. waiting places row z ≡ Some o → now < o.due) x k
-          (λ w. let e = same_some p o (sym at ∙ (waits_there places row x o w).1) in let f = ap (λ (z : Place). z.due) e in omega arith)
+          (λ w. let e = same_Some p o (sym at ∙ (waits_there places row x o w).1) in let f = ap (λ (z : Place). z.due) e in omega arith)
           (λ other w. nothing_between k o other w slot below) is;
     }
 

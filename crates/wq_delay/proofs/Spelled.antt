@@ -2,9 +2,10 @@
 use Rattle.wq_delay.proofs.Common.{◌≡◌, ℕ, zero, suc, ◌+◌, ◌-◌, ◌<◌, Bool, true, false, cond, ◌≢◌, List, [], ◌∷◌, is_some, nat_lt, ◌==◌, Some, None, Option}
 use Rattle.wq_delay.proofs.Common.{sym, refl, ap, ◌∙◌, subst, arith, eqb-true, nat_tests, AllByRecursion, Entry, IsOrdered, on_table, IsBefore, all-more}
 use Rattle.wq_delay.proofs.Common.{first_false, second_false, all_by, Place, place_in, entry_at, place_at, entries_of, place_of, AreApart, AreRows}
+use Rattle.std.proofs.lemmas.Option.{same_Some}
 use Rattle.wq_delay.specs.Rows.{goes_before, slotted, with_place, entries_from}
 use Rattle.wq_delay.proofs.Table.{place_some, put_by}
-use Rattle.wq_words.proofs.Cases.{none_told, same_some}
+use Rattle.wq_words.proofs.Cases.{none_told}
 
 pub place_off : (k : ℕ) (es : List Entry) → on_table k es ≡ false → place_of k es ≡ None
 place_off k es off = none_told (place_of k es) (place_some k es ∙ off)
@@ -44,7 +45,7 @@ same_first e f es fs p q same = by (e.item == f.item) refl
     by : (b : Bool) → (e.item == f.item) ≡ b → e ≡ f
     by true is =
         let k : e.item ≡ f.item = eqb-true e.item f.item is in
-        let at = same_some (place_at f.due f.arming) (place_at e.due e.arming)
+        let at = same_Some (place_at f.due f.arming) (place_at e.due e.arming)
         (sym (place_first f fs) ∙ (ap (λ (z : ℕ). place_of z (f ∷ fs)) (sym k) ∙ there)) in
         let d : e.due ≡ f.due = sym (ap (λ (z : Place). z.due) at) in let a : e.arming ≡ f.arming = sym (ap (λ (z : Place). z.arming) at) in
         λ i. record { due = d i; arming = a i; item = k i }

@@ -4,11 +4,11 @@ use Rattle.wq_delay.proofs.Common.{nat_lt, nat_le, ◌==◌, slice_index, Some, 
 use Rattle.wq_delay.proofs.Common.{get_or-set_same, eqb-true, nat_tests, get_or_read, length-set, All-head, All-tail, All-weaker, All-take, Entry, due_part}
 use Rattle.wq_delay.proofs.Common.{without, IsOrdered, on_table, placed, AreArmedBefore, without_off, length_placed, Place, DueItem, place_in, later_than}
 use Rattle.wq_delay.proofs.Common.{IsWheel, entry_at, entry_of, place_at, entries_of, stands, IsTimetable, AreApart, is_place, AreRows}
+use Rattle.std.proofs.lemmas.Option.{same_Some}
 use Rattle.wq_delay.proofs.Rounds.{at_or}
 use Rattle.wq_delay.proofs.Wheel.{wheel_behind, wheel_without}
 use Rattle.wq_delay.proofs.Rows.{below_place, rows_placed, rows_without, known_on}
 use Rattle.wq_delay.proofs.Spelled.{place_off, entries_rows, entries_is}
-use Rattle.wq_words.proofs.Cases.{same_some}
 
 -- tests that agree on a list keep the same of it
 pub filter_alike : {X : Type 0} (p q : X → Bool) (xs : List X) → All (λ x. p x ≡ q x) xs → filter p xs ≡ filter q xs
@@ -24,7 +24,7 @@ later_same t (Some q) p is = by (nat_le q.due t) refl is
     by : (b : Bool) → nat_le q.due t ≡ b → cond b None (Some q) ≡ Some p → (Some q ≡ Some p) × (t < p.due)
     by true early same = absurd (cc)
     by false late same =
-        let e : q ≡ p = same_some q p same in let d = ap (λ (z : Place). z.due) e in let high : t < q.due = grind (arith, nat_tests) in
+        let e : q ≡ p = same_Some q p same in let d = ap (λ (z : Place). z.due) e in let high : t < q.due = grind (arith, nat_tests) in
         (same, omega arith)
 
 pub later_some : (t : ℕ) (p : Place) → t < p.due → later_than t (Some p) ≡ Some p
@@ -99,10 +99,10 @@ module _ {places : List (Option Place)} {next previous : List ℕ} {row : List D
         at_or (λ z. place_in (set places k v) z ≡ Some p → z ≡ j) k i
         (λ a. at_or (λ z. place_in (set places k v) z ≡ Some q → k ≡ z) k j (λ _. refl)
         (λ nj b. let x = below j q (sym (at_other v j nj) ∙ b) in
-        let y = ap (λ (z : Place). z.arming) (same_some (place_at due arming) p (sym (at_k v) ∙ a)) in absurd (omega arith)) b)
+        let y = ap (λ (z : Place). z.arming) (same_Some (place_at due arming) p (sym (at_k v) ∙ a)) in absurd (omega arith)) b)
         (λ ni a. at_or (λ z. place_in (set places k v) z ≡ Some q → i ≡ z) k j
         (λ b. let x = below i p (sym (at_other v i ni) ∙ a) in
-        let y = ap (λ (z : Place). z.arming) (same_some (place_at due arming) q (sym (at_k v) ∙ b)) in absurd (omega arith))
+        let y = ap (λ (z : Place). z.arming) (same_Some (place_at due arming) q (sym (at_k v) ∙ b)) in absurd (omega arith))
         (λ nj b. t.apart i j p q (sym (at_other v i ni) ∙ a) (sym (at_other v j nj) ∙ b) same) b) a
 
     pub put_entries : entries_of (set places k v) ≡ placed e es

@@ -2,13 +2,14 @@
 use Rattle.wq_recording.proofs.Common.{◌≡◌, ◌≢◌, ℕ, ◌+◌, ◌-◌, ◌<◌, List, [], ◌∷◌, ◌++◌, length, take, drop, get_or, Option, Some, None, Result, Ok, Err, refl, sym, ap, subst, ◌∙◌, arith}
 use Rattle.wq_recording.proofs.Common.{append_assoc, length-append, Kind, Stage, Lines, ScriptError, parts, short_line, Stop, Rules, Verdict, IsLineAt}
 use Rattle.wq_recording.proofs.Common.{StopsWith, IsRefusedText, HasVerdict, HasFaultAt}
+use Rattle.std.proofs.lemmas.Option.{same_Some}
 use Rattle.wq_text.specs.declared.fault.Kind.TheVariants as kind
 use Rattle.wq_recording.specs.Verdict.{deciding_line, IsTooLongAt}
 use Rattle.std.proofs.lemmas.List.{length-drop, take-append-drop, get_or-append-add}
 use Rattle.std.proofs.Math.Seq.{take-append_seam}
 use Rattle.wq_recording.proofs.LastLine.{last_long}
 use Rattle.wq_recording.proofs.Reading.{long_is, too_long}
-use Rattle.wq_words.proofs.Cases.{same_some, same_err, clash}
+use Rattle.wq_words.proofs.Cases.{same_err, clash}
 
 -- a part with others behind it, and another text of the same lines as far as this one
 record IsAlso {A : Type 0} (gives : Lines A) (other : List ℕ) (n : ℕ) (s : Stage) (asked : List A) (line : List ℕ) : Type 0 where
@@ -108,12 +109,12 @@ module _ {A E : Type 0} (gives : Lines A) (rules : Rules A E) (text other : List
     where
       none : {m : ℕ} → None ≡ Some m → ⊥
       none e = cc
-  found_also v (Some stop) n x is more same = stops_also v stop n x (same_some _ _ is) more same
+  found_also v (Some stop) n x is more same = stops_also v stop n x (same_Some _ _ is) more same
 
   pub decided : (n : ℕ) (v : Result (Verdict E) ScriptError) → HasVerdict gives rules text v → deciding_line v ≡ Some n → n < length (parts text)
       → n < length (parts other) → take n (parts other) ≡ take n (parts text) → HasVerdict gives rules other v
   decided n (Ok v) x is long more same = found_also v v.stop n x is more same
-  decided n (Err e) x is long more same = refused_also e n x (same_some _ _ is) long more same
+  decided n (Err e) x is long more same = refused_also e n x (same_Some _ _ is) long more same
 
 part_at : (ps before rest : List (List ℕ)) (n : ℕ) → ps ≡ before ++ rest → n ≡ 1 + length before → get_or ps (n - 1) [] ≡ get_or rest 0 []
 part_at ps before rest n split number =
@@ -133,7 +134,7 @@ module _ {A E : Type 0} (inner : Lines A) (rules : Rules A E) (text other : List
 
   size_is : (s : Stage) (line : List ℕ) (behind : List (List ℕ)) (k : Kind) → 4096 < length line
       → HasFaultAt (short_line inner) rules text s line behind k → k ≡ kind.Size
-  size_is s line [] k long fault = same_some _ _ (sym fault ∙ last_long s line long)
+  size_is s line [] k long fault = same_Some _ _ (sym fault ∙ last_long s line long)
   size_is s line (p ∷ ps) k long fault = same_err (sym fault ∙ long_is inner s line long)
 
   long_also : (e : ScriptError) → IsRefusedText (short_line inner) rules text e → IsTooLongAt e.line text → IsTooLongAt e.line other
@@ -179,7 +180,7 @@ module _ {A E : Type 0} (inner : Lines A) (rules : Rules A E) (text other : List
     where
       none : {m : ℕ} → None ≡ Some m → ⊥
       none e = cc
-  never_found v (Some stop) n x is long = never_stops v stop x (subst (λ (k : ℕ). IsTooLongAt k text) (sym (same_some _ _ is)) long)
+  never_found v (Some stop) n x is long = never_stops v stop x (subst (λ (k : ℕ). IsTooLongAt k text) (sym (same_Some _ _ is)) long)
 
   pub decided_by_length : (n : ℕ) (v : Result (Verdict E) ScriptError) → HasVerdict (short_line inner) rules text v → deciding_line v ≡ Some n
       → IsTooLongAt n text → IsTooLongAt n other → take (n - 1) (parts other) ≡ take (n - 1) (parts text)
@@ -187,5 +188,5 @@ module _ {A E : Type 0} (inner : Lines A) (rules : Rules A E) (text other : List
   decided_by_length n (Ok v) x is long more same = absurd (never_found v v.stop n x is long)
   decided_by_length n (Err e) x is long more same =
       let P : ℕ → Type 0 = λ k. IsTooLongAt k text × IsTooLongAt k other × (take (k - 1) (parts other) ≡ take (k - 1) (parts text)) in
-      let here = subst P (sym (same_some _ _ is)) (long, more, same) in
+      let here = subst P (sym (same_Some _ _ is)) (long, more, same) in
       long_also e x here.0 here.1 here.2

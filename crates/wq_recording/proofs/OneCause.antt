@@ -1,6 +1,6 @@
 -- An event has one cause at most, and none where it goes on legally.
 use Rattle.wq_recording.proofs.Common.{◌≡◌, ℕ, ◌∷◌, ◌++◌, List, length, sym, ap, ◌∙◌, refl, arith, Layout, Cause}
-use Rattle.std.proofs.lemmas.Option.{slice_get_within}
+use Rattle.std.proofs.lemmas.Option.{slice_get_within, same_Some}
 use Rattle.wq_words.specs.declared.event.Why.{Why}
 use Rattle.wq_words.specs.declared.event.Why.TheVariants as reason
 use Rattle.wq_words.specs.declared.event.Event.{Event}
@@ -14,7 +14,6 @@ use Rattle.wq_check.specs.MarkCauses.{HasMarkCause}
 use Rattle.wq_check.specs.Trace.{IsLegalTrace, MayShow, started, returned}
 use Rattle.wq_words.proofs.Closed.{closed_shuts}
 use Rattle.wq_words.proofs.Running.{runs_from_running}
-use Rattle.wq_words.proofs.Cases.{same_some}
 
 closed_or_drained : (why : Why) → why ≡ reason.Closed → why ≡ reason.Draining → ⊥
 closed_or_drained why p q = cc
@@ -68,7 +67,7 @@ one_event_cause h Resume NotEnded NotEnded p q = refl
 one_event_cause h Resume NotEnded _ p q = absurd q
 one_event_cause h Close Closed Closed p q = refl
 one_event_cause h Close Closed _ p q = absurd q
-one_event_cause h (Begin k) (Runs i) (Runs j) p q = ap (λ n. Runs n) (same_some i j (sym p ∙ q))
+one_event_cause h (Begin k) (Runs i) (Runs j) p q = ap (λ n. Runs n) (same_Some i j (sym p ∙ q))
 one_event_cause h (Begin k) (Runs i) NotWaiting p q = absurd (q.0 (runs_from_running h i p))
 one_event_cause h (Begin k) (Runs i) (Next j) p q = absurd (q.0 (runs_from_running h i p))
 one_event_cause h (Begin k) (Runs i) _ p q = absurd q
@@ -78,13 +77,13 @@ one_event_cause h (Begin k) NotWaiting (Next j) p q = absurd (p.1 q.1)
 one_event_cause h (Begin k) NotWaiting _ p q = absurd q
 one_event_cause h (Begin k) (Next i) (Runs j) p q = absurd (p.0 (runs_from_running h j q))
 one_event_cause h (Begin k) (Next i) NotWaiting p q = absurd (q.1 p.1)
-one_event_cause h (Begin k) (Next i) (Next j) p q = ap (λ n. Next n) (same_some i j (sym p.2 ∙ q.2))
+one_event_cause h (Begin k) (Next i) (Next j) p q = ap (λ n. Next n) (same_Some i j (sym p.2 ∙ q.2))
 one_event_cause h (Begin k) (Next i) _ p q = absurd q
 one_event_cause h (End k) NothingRuns NothingRuns p q = refl
 one_event_cause h (End k) NothingRuns (Runs j) p q = absurd (p (runs_from_running h j q.0))
 one_event_cause h (End k) NothingRuns _ p q = absurd q
 one_event_cause h (End k) (Runs i) NothingRuns p q = absurd (q (runs_from_running h i p.0))
-one_event_cause h (End k) (Runs i) (Runs j) p q = ap (λ n. Runs n) (same_some i j (sym p.0 ∙ q.0))
+one_event_cause h (End k) (Runs i) (Runs j) p q = ap (λ n. Runs n) (same_Some i j (sym p.0 ∙ q.0))
 one_event_cause h (End k) (Runs i) _ p q = absurd q
 one_event_cause h (Chain k) Open Open p q = refl
 one_event_cause h (Chain k) Open NothingRuns p q = absurd (p q.0)
@@ -131,7 +130,7 @@ executes t k rests runs = omega (arith, rests, slice_get_within (started t) (len
 pub one_mark_cause : (t : List Mark) (m : Mark) (c d : Cause) → HasMarkCause t m c → HasMarkCause t m d → c ≡ d
 one_mark_cause t (mark.Queue k) Pending Pending p q = refl
 one_mark_cause t (mark.Queue k) Pending _ p q = absurd q
-one_mark_cause t (mark.Start k) (Runs i) (Runs j) p q = ap (λ n. Runs n) (same_some i j (sym p ∙ q))
+one_mark_cause t (mark.Start k) (Runs i) (Runs j) p q = ap (λ n. Runs n) (same_Some i j (sym p ∙ q))
 one_mark_cause t (mark.Start k) (Runs i) NotWaiting p q = absurd (executes t i q.0 p)
 one_mark_cause t (mark.Start k) (Runs i) (Next j) p q = absurd (executes t i q.0 p)
 one_mark_cause t (mark.Start k) (Runs i) _ p q = absurd q
@@ -141,13 +140,13 @@ one_mark_cause t (mark.Start k) NotWaiting (Next j) p q = absurd (p.1 q.1)
 one_mark_cause t (mark.Start k) NotWaiting _ p q = absurd q
 one_mark_cause t (mark.Start k) (Next i) (Runs j) p q = absurd (executes t j p.0 q)
 one_mark_cause t (mark.Start k) (Next i) NotWaiting p q = absurd (q.1 p.1)
-one_mark_cause t (mark.Start k) (Next i) (Next j) p q = ap (λ n. Next n) (same_some i j (sym p.2 ∙ q.2))
+one_mark_cause t (mark.Start k) (Next i) (Next j) p q = ap (λ n. Next n) (same_Some i j (sym p.2 ∙ q.2))
 one_mark_cause t (mark.Start k) (Next i) _ p q = absurd q
 one_mark_cause t (mark.End k) NothingRuns NothingRuns p q = refl
 one_mark_cause t (mark.End k) NothingRuns (Runs j) p q = absurd (executes t j p q.0)
 one_mark_cause t (mark.End k) NothingRuns _ p q = absurd q
 one_mark_cause t (mark.End k) (Runs i) NothingRuns p q = absurd (executes t i q p.0)
-one_mark_cause t (mark.End k) (Runs i) (Runs j) p q = ap (λ n. Runs n) (same_some i j (sym p.0 ∙ q.0))
+one_mark_cause t (mark.End k) (Runs i) (Runs j) p q = ap (λ n. Runs n) (same_Some i j (sym p.0 ∙ q.0))
 one_mark_cause t (mark.End k) (Runs i) _ p q = absurd q
 one_mark_cause t _ _ _ p q = absurd p
 

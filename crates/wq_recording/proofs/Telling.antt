@@ -1,7 +1,7 @@
 -- What follows of what a checker was told: where the first event of a line is not legal, and that all before it are.
 use Rattle.wq_recording.proofs.Common.{◌≡◌, List, [], ◌∷◌, Option, Some, None, refl, sym, ap, subst, ◌∙◌, append-nil, Layout, Cause, Stage, Rules, StopsAmong}
 use Rattle.wq_recording.proofs.Common.{layout_at, HasTold, IsMadeAt}
-use Rattle.wq_words.proofs.Cases.{same_some}
+use Rattle.std.proofs.lemmas.Option.{same_Some}
 
 pub stops_first : {A E : Type 0} (rules : Rules A E) (layout : Layout) (h : List E) (event : E) (rest : List E) (IsAfter : List E → Type 0) (cause : Cause)
     → IsAfter h → rules.HasCause layout h event cause → StopsAmong rules layout h (event ∷ rest) IsAfter cause
@@ -25,4 +25,4 @@ module _ {A E C : Type 0} (rules : Rules A E) (layout_of : C → Layout) (after 
   told_legal s layout (Some c) h here made told =
       let P : Layout → Type 0 = λ l. rules.IsLegal l h in
       let is : Some (layout_of c) ≡ Some layout = sym (ap layout_at made) ∙ here in
-      subst P (same_some _ _ is) (legal c h told)
+      subst P (same_Some _ _ is) (legal c h told)

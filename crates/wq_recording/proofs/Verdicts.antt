@@ -3,13 +3,14 @@ use Rattle.wq_recording.proofs.Common.{◌≡◌, ◌≢◌, ℕ, ◌+◌, List,
 use Rattle.wq_recording.proofs.Common.{inl, inr, flat_map, option_to_list, append_assoc, append-nil, Layout, Cause, Kind, ScriptError, Stage, Lines}
 use Rattle.wq_recording.proofs.Common.{LinesLead, layout_at, Stop, Rules, Verdict, IsLineAt, IsLegalText, StopsWith, IsRefusedText, HasVerdict}
 use Rattle.wq_recording.proofs.Common.{HasFaultAt}
+use Rattle.std.proofs.lemmas.Option.{same_Some}
 use Rattle.wq_recording.proofs.Leading.{same_lead, LeadsThrough, through, stays_through}
 use Rattle.wq_recording.proofs.Places.{Places, places}
 use Rattle.wq_text.specs.declared.header.Stage.TheVariants as stage
 use Rattle.wq_text.proofs.Outcomes.{whole_or_not, same_error}
 use Rattle.std.proofs.lemmas.Grind.{flat_map-append}
 use Rattle.wq_words.proofs.Lists.{none_cons}
-use Rattle.wq_words.proofs.Cases.{same_some, same_ok, same_err, clash}
+use Rattle.wq_words.proofs.Cases.{same_ok, same_err, clash}
 
 same_stop : (x y : Stop) → x.line ≡ y.line → x.cause ≡ y.cause → x ≡ y
 same_stop x y p q = λ i. record { line = p i; cause = q i }
@@ -41,7 +42,7 @@ module _ {A E : Type 0} (gives : Lines A) (rules : Rules A E) (fit : AreFit give
       let told : y.one ≡ Some x.one = ap (λ (z : Stage × Option A). z.1) one in
       let P : Stage → Type 0 = λ s. LinesLead gives s more t y.rest in
       let at_end : t ≡ stage.Commands c.0 = stays_through gives fit.stays c.0 more t y.rest (subst P next y.goes) in
-      let has : c.0 ≡ layout = same_some _ _ (sym (ap layout_at c.1) ∙ x.whole) in
+      let has : c.0 ≡ layout = same_Some _ _ (sym (ap layout_at c.1) ∙ x.whole) in
       let others = flat_map rules.tells y.rest in
       let first = flat_map rules.tells x.asked in
       let all : flat_map rules.tells asked ≡ first ++ ((x.first ++ x.event ∷ x.rest) ++ others) =
@@ -86,7 +87,7 @@ module _ {A E : Type 0} (gives : Lines A) (rules : Rules A E) (fit : AreFit give
   legal_of_text layout events x = λ l e.
       let P : Layout → Type 0 = λ m. rules.IsLegal m events in
       let Q : List E → Type 0 = λ h. rules.IsLegal l h in
-      subst Q (x.events_are ∙ sym (append-nil (flat_map rules.tells x.asked))) (subst P (same_some _ _ (sym x.whole ∙ ap layout_at e)) x.legal)
+      subst Q (x.events_are ∙ sym (append-nil (flat_map rules.tells x.asked))) (subst P (same_Some _ _ (sym x.whole ∙ ap layout_at e)) x.legal)
 
   legal_of_stop : (layout : Layout) (events : List E) (stop : Stop) (x : StopsWith gives rules text layout events stop) → LegalTo x.reached x.asked x.first
   legal_of_stop layout events stop x = λ l e.
@@ -94,7 +95,7 @@ module _ {A E : Type 0} (gives : Lines A) (rules : Rules A E) (fit : AreFit give
       let Q : List E → Type 0 = λ h. rules.IsLegal l h in
       let G : Stage → Type 0 = λ s. gives s x.line ≡ Ok (x.next, Some x.one) in
       let next = fit.stays l x.line x.next (Some x.one) (subst G e x.given) in
-      subst Q x.events_are (subst P (same_some _ _ (sym x.whole ∙ ap layout_at next)) x.legal)
+      subst Q x.events_are (subst P (same_Some _ _ (sym x.whole ∙ ap layout_at next)) x.legal)
 
   legal_of_refused : (e : ScriptError) (x : IsRefusedText gives rules text e) → LegalTo x.reached x.asked []
   legal_of_refused e x = λ l is.
@@ -106,7 +107,7 @@ module _ {A E : Type 0} (gives : Lines A) (rules : Rules A E) (fit : AreFit give
       by_place : Places x.at.before y.at.before [] [] [] [] → (l ≡ m) × (h ≡ k)
       by_place (inl s) =
           let same = one_lead x.reached y.reached x.asked y.asked x.at.before y.at.before s.before x.at.leads y.at.leads in
-          (same_some _ _ (sym x.whole ∙ ap layout_at same.0 ∙ y.whole), x.events_are ∙ ap (flat_map rules.tells) same.1 ∙ sym y.events_are)
+          (same_Some _ _ (sym x.whole ∙ ap layout_at same.0 ∙ y.whole), x.events_are ∙ ap (flat_map rules.tells) same.1 ∙ sym y.events_are)
       by_place (inr (inl s)) = absurd (none_cons s.more [] [] (sym s.after))
       by_place (inr (inr s)) = absurd (none_cons s.more [] [] (sym s.after))
 
@@ -162,8 +163,8 @@ module _ {A E : Type 0} (gives : Lines A) (rules : Rules A E) (fit : AreFit give
           let same = one_lead x.reached y.reached x.asked y.asked x.at.before y.at.before s.before x.at.leads y.at.leads in
           let one : (x.next, Some x.one) ≡ (y.next, Some y.one) =
           same_ok (sym x.given ∙ ap (λ t. gives t x.line) same.0 ∙ ap (gives y.reached) s.here ∙ y.given) in
-          let layout : l ≡ m = same_some _ _ (sym x.whole ∙ ap (λ (z : Stage × Option A). layout_at z.0) one ∙ y.whole) in
-          let told : x.one ≡ y.one = same_some _ _ (ap (λ (z : Stage × Option A). z.1) one) in
+          let layout : l ≡ m = same_Some _ _ (sym x.whole ∙ ap (λ (z : Stage × Option A). layout_at z.0) one ∙ y.whole) in
+          let told : x.one ≡ y.one = same_Some _ _ (ap (λ (z : Stage × Option A). z.1) one) in
           let first = flat_map rules.tells x.asked in
           let others = flat_map rules.tells y.asked in
           let before : others ≡ first = ap (flat_map rules.tells) (sym same.1) in
@@ -209,7 +210,7 @@ module _ {A E : Type 0} (gives : Lines A) (rules : Rules A E) (fit : AreFit give
   fault_once : (s : Stage) (line : List ℕ) (behind : List (List ℕ)) (k j : Kind) → HasFaultAt gives rules text s line behind k
       → HasFaultAt gives rules text s line behind j → k ≡ j
   fault_once s line (next ∷ more) k j fault too = same_err (sym fault ∙ too)
-  fault_once s line [] k j fault too = same_some _ _ (sym fault ∙ too)
+  fault_once s line [] k j fault too = same_Some _ _ (sym fault ∙ too)
 
   both_refused : (e f : ScriptError) → IsRefusedText gives rules text e → IsRefusedText gives rules text f → e ≡ f
   both_refused e f x y = by_place (cut e.line f.line x.reached y.reached x.asked y.asked x.line y.line x.behind y.behind x.at y.at)

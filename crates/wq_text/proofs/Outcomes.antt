@@ -2,9 +2,10 @@
 use Rattle.wq_text.proofs.Common.{◌≡◌, ℕ, ◌+◌, ◌⊎◌, List, [], ◌∷◌, ◌++◌, length, Option, Some, Result, Ok, Err, refl, sym, ap, ◌∙◌, arith, subst, inl, inr}
 use Rattle.wq_text.proofs.Common.{option_to_list, Layout, Kind, ScriptError, Stage, layout_at, Lines, LinesLead, Spells, end_fault, HasLineFault, IsRefusal}
 use Rattle.wq_text.proofs.Common.{HasOneOutcome}
+use Rattle.std.proofs.lemmas.Option.{same_Some}
 use Rattle.wq_text.specs.declared.header.Stage.TheVariants as stage
 use Rattle.wq_words.proofs.Lists.{none_cons}
-use Rattle.wq_words.proofs.Cases.{same_some, same_ok, same_err, clash}
+use Rattle.wq_words.proofs.Cases.{same_ok, same_err, clash}
 
 -- a header that is whole has no fault
 pub whole_or_not : (s : Stage) (layout : Layout) (k : Kind) → layout_at s ≡ Some layout → end_fault s ≡ Some k → ⊥
@@ -66,7 +67,7 @@ module _ {A : Type 0} (gives : Lines A) where
       → HasLineFault gives s line behind j → k ≡ j
   fault_once s line (next ∷ more) k j fault too = same_err (sym fault ∙ too)
   fault_once s (b ∷ bs) [] k j fault too = fault ∙ sym too
-  fault_once s [] [] k j fault too = same_some _ _ (sym fault ∙ too)
+  fault_once s [] [] k j fault too = same_Some _ _ (sym fault ∙ too)
 
   module _ (text : List ℕ) where
     spelled_once : (layout other : Layout) (asked others : List A) → Spells gives text layout asked → Spells gives text other others

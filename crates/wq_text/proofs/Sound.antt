@@ -1,8 +1,8 @@
 -- What a line gives keeps what was read sound.
 use Rattle.wq_text.proofs.Common.{◌≡◌, ℕ, zero, suc, ◌∙◌, All, List, [], ◌∷◌, ◌++◌, Option, Some, None, sym, subst, arith, option_to_list, append-nil}
 use Rattle.wq_text.proofs.Common.{All-append, All-nil, Layout, Stage, layout_at, AreSound, SoundAt, KeepsSound, KeepsHeader}
+use Rattle.std.proofs.lemmas.Option.{same_Some}
 use Rattle.wq_text.specs.declared.header.Stage.TheVariants as stage
-use Rattle.wq_words.proofs.Cases.{same_some}
 
 pub all_one : {A : Type 0} (P : A → Type 0) (x : A) → P x → All P (x ∷ [])
 all_one P x here zero d lt = here
@@ -29,9 +29,9 @@ module _ {A : Type 0} (most : ℕ) (fits : Layout → A → Type 0) where
   keeps_header s t step asked sound = absurd step
 
   pub ends_sound : (s : Stage) (layout : Layout) (asked : List A) → layout_at s ≡ Some layout → SoundAt most fits s asked → AreSound most fits layout asked
-  ends_sound (stage.Commands l) layout asked here sound = let P : Layout → Type 0 = λ x. AreSound most fits x asked in subst P (same_some _ _ here) sound
+  ends_sound (stage.Commands l) layout asked here sound = let P : Layout → Type 0 = λ x. AreSound most fits x asked in subst P (same_Some _ _ here) sound
   ends_sound (stage.Barriers l) layout asked here sound =
-      let P : Layout → Type 0 = λ x. AreSound most fits x asked in subst P (same_some _ _ here) (sound.0, all_none l asked sound.1)
+      let P : Layout → Type 0 = λ x. AreSound most fits x asked in subst P (same_Some _ _ here) (sound.0, all_none l asked sound.1)
   ends_sound stage.Version layout asked here sound = cc
   ends_sound stage.Items layout asked here sound = cc
   ends_sound (stage.Senders l) layout asked here sound = cc

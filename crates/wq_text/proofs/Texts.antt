@@ -3,13 +3,13 @@ use Rattle.wq_text.proofs.Common.{◌≡◌, ℕ, suc, ◌+◌, ◌<◌, ◌≤�
 use Rattle.wq_text.proofs.Common.{Err, position, ◌==◌, refl, sym, ap, ◌∙◌, arith, subst, inl, inr, length-append, append_assoc, count_by, slice_split}
 use Rattle.wq_text.proofs.Common.{position_or_len, onto_first, option_to_list, cases_lt, lt-ltb, le-ltb, eqb-true, eqb-false, append-nil, Layout, ScriptError}
 use Rattle.wq_text.proofs.Common.{RefusedFor, Stage, layout_at, Lines, LinesLead, Spells, HasLineFault, IsRefusal, end_fault, parts}
+use Rattle.std.proofs.lemmas.Option.{same_Some}
 use Rattle.std.proofs.lemmas.List.Splits.{slice_split-cons_no, slice_split_first, length-slice_split}
 use Rattle.wq_text.specs.TextLimits.{most_bytes}
 use Rattle.wq_text.specs.declared.fault.Kind.TheVariants as kind
 use Rattle.wq_text.specs.declared.fault.ParseError.{ParseError}
 use Rattle.wq_text.specs.declared.fault.ParseError.TheVariants as errors
 use Rattle.wq_text.specs.declared.header.Stage.TheVariants as stage
-use Rattle.wq_words.proofs.Cases.{same_some}
 use Rattle.std.proofs.lemmas.List.{nil_from_length}
 
 one_step : (p : ℕ → Bool) (x : ℕ) (xs : List ℕ) (b : Bool) → p x ≡ b → (length xs ≤ position_or_len p xs → slice_split p xs ≡ xs ∷ [])
@@ -34,7 +34,7 @@ pub one_line : (text : List ℕ) (end : ℕ) → Some end ≡ position (λ b. b 
     → (end < length text) × (parts text ≡ take end text ∷ parts (drop (end + 1) text))
 one_line text end e = elim (cases_lt (position_or_len (λ b. b == 10) text) (length text)) [
   | inl lt ↦
-      let same : end ≡ position_or_len (λ b. b == 10) text = same_some _ _ (rw (lt-ltb _ _ lt) at e) in
+      let same : end ≡ position_or_len (λ b. b == 10) text = same_Some _ _ (rw (lt-ltb _ _ lt) at e) in
       let P : ℕ → Type 0 = λ n. (n < length text) × (parts text ≡ take n text ∷ parts (drop (n + 1) text)) in
       subst P (sym same) (lt, slice_split_first (λ b. b == 10) text 0 lt)
   | inr le ↦ absurd (differ (rw (le-ltb _ _ le) at e))

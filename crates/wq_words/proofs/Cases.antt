@@ -1,9 +1,6 @@
--- Options and results by their cases: what equal ones hold, which are never equal, and what a test of one says.
+-- Options and results by their cases: what equal results hold, which are never equal, and what a test says of either.
 use Rattle.std.proofs.Common.{◌≡◌, true, false, Option, Some, None, Result, Ok, Err, is_some, is_ok, is_err, refl, sym}
 use Rattle.std.proofs.lemmas.Bool.{false≢true}
-
-pub same_some : {B : Type 0} (b c : B) → Some b ≡ Some c → b ≡ c
-same_some b c e = cc
 
 pub same_ok : {E B : Type 0} {b c : B} → ◌≡◌ {A = Result B E} (Ok b) (Ok c) → b ≡ c
 same_ok e = cc
