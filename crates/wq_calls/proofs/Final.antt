@@ -3,7 +3,7 @@ use Rattle.wq_calls.proofs.Common.{◌≡◌, ℕ, ◌+◌, ◌≤◌, Bool, tru
 use Rattle.wq_calls.proofs.Common.{refl, ap, ◌∙◌, subst, arith, append_assoc, append-nil, sum_by-append, filter_map-append, Layout, Event, Hold, Busy}
 use Rattle.wq_calls.proofs.Common.{Push, Back, Take, Close, Drain, Begin, End, ChainBusy, accepted, accepted_by, begun, begun_by, ended, is_close}
 use Rattle.wq_calls.proofs.Common.{IsClosed, IsShut, IsRunning, running, listed, IsLegal, take-length, keeps_headline, legal_front, legal_next}
-use Rattle.wq_calls.proofs.Common.{in_order, prefix_length, Part, Owns, HasStage, false≢true, IsClosed_from_closed, closed_shuts, runs_some}
+use Rattle.wq_calls.proofs.Common.{in_order, prefix_length, Part, Owns, HasStage, IsClosed_from_closed, closed_shuts}
 use Rattle.wq_calls.proofs.Common.{Owning as Inside, Known, batch, owner_view, Stands, OwnsQueue, kept_batch}
 use Rattle.std.specs.Prelude.{filter_map}
 use Rattle.std.proofs.lemmas.Option.{slice_get_past}
@@ -13,12 +13,12 @@ use Rattle.wq_words.specs.Legal.{MayFollow, IsComplete, HasRunOut}
 use Rattle.wq_words.proofs.Listed.{listed-shut}
 use Rattle.std.specs.Option.{is_some}
 use Rattle.std.proofs.lemmas.Bool.{false_from_ne_true}
-use Rattle.std.proofs.lemmas.Option.{slice_get_within}
 use Rattle.wq_words.proofs.Closed.{closed_from_IsClosed}
 use Rattle.wq_calls.specs.Answers.{IsFinal}
 use Rattle.wq_calls.proofs.OwnerTells.{stands_legal, owner_batch}
 use Rattle.wq_calls.proofs.Rows.{none_counted}
 use Rattle.wq_calls.proofs.Taken.{rested_lengths}
+use Rattle.wq_words.proofs.Running.{runs_told, idle_told}
 
 -- nothing is accepted, begins or ends by the event
 pub record IsQuiet (e : Event) : Type 0 where
@@ -114,13 +114,6 @@ stands_lengths p ks stands is =
     let whole : length (accepted m.history) ≡ length (begun m.history) + length ks + length (listed m.history) = omega arith in
     subst (λ (h : List Event). length (accepted h) ≡ length (begun h) + length ks + length (listed h)) (sym stands.seen_is) whole
 
-running_some : (h : List Event) (o : Option ℕ) → running h ≡ o → is_some o ≡ true → IsRunning h
-running_some h None is some = absurd (false≢true some)
-running_some h (Some k) is some = slice_get_within (begun h) (length (ended h)) k is
-
-running_none : (h : List Event) → is_some (running h) ≡ false → ¬ IsRunning h
-running_none h none runs = false≢true (sym none ∙ ap is_some (runs_some h runs).1)
-
 module _ (s : Inside) (now : Known) (view : owner_view s ≡ now) (o : OwnsQueue s) where
   here : (P : List Event → Type 0) → P s.chair.part.seen → P now.seen
   here P = subst (λ (v : Known). P v.seen) view
@@ -138,12 +131,12 @@ module _ (s : Inside) (now : Known) (view : owner_view s ≡ now) (o : OwnsQueue
       here (λ h. length (ended h) ≡ length (accepted h))
       (ended_rested p.layout p.seen (kept_batch p.stage) (stands_legal p o.stands) (there IsShut shuts) lengths
       (none_counted (kept_batch p.stage) (omega (arith, none, o.has_row.row_is.count_is)))
-      (running_none p.seen (ap is_some (sym o.running_is) ∙ idle)))
+      (idle_told p.seen s.running o.running_is idle))
 
   -- as the owner keeps it
   idle_kept : ¬ IsRunning s.chair.part.seen → is_some s.running ≡ false
   idle_kept idle = let p = s.chair.part in false_from_ne_true (is_some s.running)
-      (λ some. idle (running_some p.seen (running p.seen) refl (ap is_some (sym o.running_is) ∙ some)))
+      (λ some. idle (runs_told p.seen s.running o.running_is some))
 
   -- where all has ended the owner knows that nothing waits or runs
   pub owner_rested : length (ended now.seen) ≡ length (accepted now.seen) → (s.row.count ≡ 0) × (is_some s.running ≡ false)
@@ -164,7 +157,7 @@ module _ (s : Inside) (now : Known) (view : owner_view s ≡ now) (o : OwnsQueue
   owner_empty none = sym (owner_batch s now view o) ∙ none_counted (kept_batch s.chair.part.stage) (omega (arith, none, o.has_row.row_is.count_is))
 
   pub owner_quiet : is_some s.running ≡ false → ¬ IsRunning now.seen
-  owner_quiet idle = here (λ h. ¬ IsRunning h) (running_none s.chair.part.seen (ap is_some (sym o.running_is) ∙ idle))
+  owner_quiet idle = here (λ h. ¬ IsRunning h) (idle_told s.chair.part.seen s.running o.running_is idle)
 
   -- the queue is closed where the owner knows it closed
   pub owner_closed : (known : Bool) → known ≡ closed s.chair.part.seen → known ≡ true → IsClosed now.seen

@@ -1,8 +1,6 @@
--- What the owner's `next` and `running` say of its history, where it is tested whether they are some.
+-- What the owner's `next` says of its history, where it is tested whether it is some.
 use Rattle.std.proofs.Common.{◌≡◌, ◌≢◌, ℕ, true, false, List, [], Option, Some, None, is_some, sym}
 use Rattle.wq_words.specs.declared.event.Event.{Event}
-use Rattle.wq_words.specs.History.{running, IsRunning}
-use Rattle.wq_words.proofs.Running.{runs_from_running, rests_from_running}
 use Rattle.wq_calls.specs.Batch.{batch, next_of}
 use Rattle.wq_calls.proofs.Reading.{empty_from_next, waits_from_next}
 
@@ -13,11 +11,3 @@ waits_told h (Some k) is some = waits_from_next h k (sym is)
 pub empty_told : (h : List Event) (r : Option ℕ) → r ≡ next_of h → is_some r ≡ false → batch h ≡ []
 empty_told h None is none = empty_from_next h (sym is)
 empty_told h (Some k) is none = absurd (cc)
-
-pub runs_told : (h : List Event) (r : Option ℕ) → r ≡ running h → is_some r ≡ true → IsRunning h
-runs_told h None is some = absurd (cc)
-runs_told h (Some k) is some = runs_from_running h k (sym is)
-
-pub idle_told : (h : List Event) (r : Option ℕ) → r ≡ running h → is_some r ≡ false → ¬ IsRunning h
-idle_told h None is none = rests_from_running h (sym is)
-idle_told h (Some k) is none = absurd (cc)

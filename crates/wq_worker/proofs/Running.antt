@@ -1,22 +1,11 @@
 -- The number that runs.
-use Rattle.wq_worker.proofs.Common.{◌≡◌, ℕ, ◌+◌, ◌<◌, true, false, List, [], ◌∷◌, ◌++◌, length, Option, Some, None, slice_get, inl, inr, subst, sym}
+use Rattle.wq_worker.proofs.Common.{◌≡◌, ℕ, ◌+◌, ◌<◌, List, [], ◌∷◌, ◌++◌, length, Some, slice_get, inl, inr, subst, sym}
 use Rattle.wq_worker.proofs.Common.{refl, ap, ◌∙◌, arith, length-append, append-nil, filter_map-append, Event, Begin, Layout, number_count, begun_by}
 use Rattle.wq_worker.proofs.Common.{begun, ended, running, IsRunning, IsLegal, in_order, prefix_length}
-use Rattle.std.specs.Option.{is_some}
 use Rattle.wq_words.specs.Legal.{IsAllowed}
 use Rattle.wq_words.proofs.Growing.{slice_get_last, slice_get_push, filter_map_push_none}
 use Rattle.wq_words.proofs.Legal.{legal_induction}
-use Rattle.wq_words.proofs.Running.{runs_from_running, rests_from_running}
 use Rattle.wq_worker.proofs.Owned.{OwnerAdds}
-
--- by a test of the number
-pub runs_told : (h : List Event) (r : Option ℕ) → r ≡ running h → is_some r ≡ true → IsRunning h
-runs_told h None is some = absurd (cc)
-runs_told h (Some k) is some = runs_from_running h k (sym is)
-
-pub idle_told : (h : List Event) (r : Option ℕ) → r ≡ running h → is_some r ≡ false → ¬ IsRunning h
-idle_told h None is none = rests_from_running h (sym is)
-idle_told h (Some k) is none = absurd (cc)
 
 -- begun after nothing ran
 pub runs_begun : (layout : Layout) (k : ℕ) (es v w : List Event) → IsLegal layout v → ¬ IsRunning v → begun es ≡ k ∷ [] → ended es ≡ []

@@ -1,5 +1,5 @@
 use Rattle.std.proofs.Common.{not, refl, ap, ◌∙◌}
-use Rattle.wq_seats.proofs.Told.{runs_told, idle_told}
+use Rattle.wq_words.proofs.Running.{runs_told, idle_told}
 use Rattle.wq_seats.proofs.owning.end_running.Goals as goal
 
 pub returns-then-is_none : goal.returns-then-is_none

@@ -2,7 +2,7 @@ use Rattle.wq_value_worker.proofs.Common.{MatchOption, refl, ap, sym, ◌∙◌,
 use Rattle.wq_value_worker.proofs.Common.{ValueWorkerState, owner_in, IsShut, IsClosed, IsLegal}
 use Rattle.wq_worker.specs.Resting.{owed}
 use Rattle.wq_worker.proofs.Owned.{quiet_stays, owner_of_both}
-use Rattle.wq_worker.proofs.Running.{runs_told, idle_told}
+use Rattle.wq_words.proofs.Running.{runs_told, idle_told}
 use Rattle.wq_worker.specs.State.{IsSameWorker}
 use Rattle.wq_worker.proofs.Rows.{worker_still, moves_same}
 use Rattle.wq_worker.proofs.State.{quiet_taking}
