@@ -7,9 +7,8 @@ use Rattle.wq_words.specs.declared.answer.Posted.TheVariants as posted
 use Rattle.wq_words.specs.declared.event.Why.TheVariants as why
 use Rattle.wq_calls.proofs.Common.{eq-eqb, IsLegal, kept, legal_front, ◌++◌, ◌∙◌, append_assoc, Grows, own-append, own_one}
 use Rattle.wq_words.specs.History.{starts_hold, stops_hold}
-use Rattle.wq_words.specs.Keeper.{Keeper, keeper}
-use Rattle.wq_words.specs.Keeper.Keeper.{Sender}
-use Rattle.wq_words.proofs.Keepers.{held_bit}
+use Rattle.wq_words.specs.Keeper.{keeper}
+use Rattle.wq_words.proofs.Keepers.{held_once}
 use Rattle.wq_words.proofs.Seen.{starts_own, stops_own}
 use Rattle.wq_calls.proofs.Counting.{count_on, count_one}
 use Rattle.wq_calls.proofs.Sends.{sees_held}
@@ -127,14 +126,6 @@ posted_unheld k j tries posted.Draining s t told = seen_unheld k 0 s t told.0
 posted_unheld k j tries posted.Contended s t told = seen_unheld k tries s t told
 
 -- a legal history holds a number at most once, so what is pushed or given back is held no longer
-held_once : (s : ℕ) (x : Keeper) → held_bit s x ≤ 1
-held_once s (Sender t) = at_most (t == s)
-  where
-    at_most : (b : Bool) → cond {A = ℕ} b 1 0 ≤ 1
-    at_most true = omega arith
-    at_most false = omega arith
-held_once s _ = omega arith
-
 stopped : (k n : ℕ) (e : Event) (s t : Known) → Sees (e ∷ []) n s t → starts_hold s.number k e ≡ false → stops_hold s.number k e ≡ true
     → ¬ Holds t.seen t.number k
 stopped k n e s t sees no_start stop =

@@ -1,7 +1,7 @@
 -- What lies in the slots of the owner's hand, step after step.
 use Rattle.wq_calls.proofs.Common.{◌≡◌, ℕ, ◌+◌, ◌<◌, ◌≤◌, Bool, true, false, cond, List, [], ◌∷◌, ◌++◌, map, length, slice_get, Option, Some, None}
 use Rattle.wq_calls.proofs.Common.{sym, refl, ap, ◌∙◌, subst, arith, inl, inr, ⊎_elim, append-nil, IsPrefix, TableId, rest, Event, Layout, accepted}
-use Rattle.wq_calls.proofs.Common.{begun, owner_seat, own, Grows, Carries, accepted-append, slice_get-prefix, begun_same, times, times-cons, Step}
+use Rattle.wq_calls.proofs.Common.{begun, owner_seat, own, Grows, Carries, slice_get-prefix, begun_same, times, times-cons, Step}
 use Rattle.wq_calls.proofs.Common.{Walk, Machine, Part, Stage, Owns, ValuePart, HasStage, Hand, ValueStanding, part_in, ValueSteps, HasValue, Learns}
 use Rattle.wq_calls.proofs.Common.{LearnsOrStays, learns_step, learns_more, OwnerSeat, batch, Sees, Rests, owning, owner_view, OwnsQueue, Stands}
 use Rattle.wq_calls.proofs.Common.{OnlySees, kept_batch, slot_number, HasHand, OwnsSlots, OwnsSeat}
@@ -18,9 +18,7 @@ use Rattle.wq_calls.specs.Hands.{EachBrought, OwnsEmptied}
 use Rattle.wq_calls.proofs.Owned.{begun_on}
 use Rattle.wq_calls.proofs.Tells.{TellsSo, Tells}
 use Rattle.wq_calls.proofs.OwnerTells.{walk_tells, begin_tells, owner_batch}
-
-prefix_accepted : (v w : List Event) → IsPrefix v w → IsPrefix (accepted v) (accepted w)
-prefix_accepted v w front = (accepted front.0, sym (accepted-append v front.0) ∙ ap accepted front.1)
+use Rattle.wq_words.proofs.Appended.{prefix_accepted}
 
 -- what came new is seen behind what was seen
 pub accepted_on : (c : ℕ) (xs : List Event) (n : ℕ) (v w : List Event) → Grows c xs n v w → IsPrefix (accepted v) (accepted w)

@@ -1,7 +1,7 @@
 -- What a sender holds after events of its own.
-use Rattle.wq_words.specs.Keeper.{Keeper, Home, Sender, Listed, Owner, keeper}
+use Rattle.wq_words.specs.Keeper.{keeper}
 use Rattle.wq_words.proofs.Legal.{legal_front}
-use Rattle.wq_words.proofs.Keepers.{held_bit, kept}
+use Rattle.wq_words.proofs.Keepers.{held_once, kept}
 use Rattle.wq_words.specs.Seen.{seat_of, own}
 use Rattle.wq_delay.proofs.Common.{◌≡◌, ℕ, ◌+◌, ◌<◌, ◌≤◌, Bool, true, false, cond, not, ◌&&◌, ◌||◌, ◌↔◌, List, [], ◌∷◌, ◌++◌, length, IsTrue, ◌==◌, count_by}
 use Rattle.wq_delay.proofs.Common.{filter, sym, refl, ap, ◌∙◌, subst, arith, eqb-true, nat_tests, length-filter, sum_by-append, Event, Back, Push, Hold, Layout}
@@ -41,12 +41,6 @@ starts s k h = count_by (starts_hold s k) h
 abbrev pub stops : ℕ → ℕ → List Event → ℕ
 stops s k h = count_by (stops_hold s k) h
 
-held_bit-le-one : (s : ℕ) (x : Keeper) → held_bit s x ≤ 1
-held_bit-le-one s Home = omega arith
-held_bit-le-one s (Sender t) = grind (arith, nat_tests)
-held_bit-le-one s Listed = omega arith
-held_bit-le-one s Owner = omega arith
-
 -- how often the seat of a began and ended to hold k, before and after the events xs of its own
 pub record Counted (xs : List Event) (a b : Known) (k : ℕ) : Type 0 where
   pub number_is : b.number ≡ a.number
@@ -61,7 +55,7 @@ low_of : (layout : Layout) (h : List Event) (s k : ℕ) → IsLegal layout h →
 low_of layout h s k legal = omega (arith, (kept layout h legal s k).0)
 
 high_of : (layout : Layout) (h : List Event) (s k : ℕ) → IsLegal layout h → starts s k h ≤ stops s k h + 1
-high_of layout h s k legal = omega (arith, (kept layout h legal s k).0, held_bit-le-one s (keeper h k))
+high_of layout h s k legal = omega (arith, (kept layout h legal s k).0, held_once s (keeper h k))
 
 count_more : (p : Event → Bool) (c : ℕ) (mine : (e : Event) → p e ≡ true → (seat_of e == c) ≡ true) (h new w xs : List Event) → w ≡ h ++ new → own c new ≡ xs
     → count_by p w ≡ count_by p h + count_by p xs

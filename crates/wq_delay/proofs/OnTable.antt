@@ -1,6 +1,6 @@
 -- Which items are on the table after an entry was placed, or an item taken off.
 use Rattle.wq_delay.proofs.Common.{◌≡◌, ℕ, Bool, true, false, not, ◌||◌, ◌&&◌, ◌≢◌, List, [], ◌∷◌, length, ◌==◌, refl, ap, ◌∙◌, eqb-true}
-use Rattle.wq_delay.proofs.Common.{arith, nat_tests, Entry, DelayTable, DelayState, Known, Holds, on_table, placed, without, on_table-placed, on_table-without}
+use Rattle.wq_delay.proofs.Common.{Entry, DelayTable, DelayState, Known, Holds, on_table, placed, without, on_table-placed, on_table-without}
 use Rattle.wq_delay.proofs.Held.{HoldsAll}
 use Rattle.wq_delay.specs.Delay.{PostsOne}
 use Rattle.wq_words.specs.Armed.{armed_of}
@@ -10,9 +10,7 @@ use Rattle.wq_words.specs.declared.answer.Posted.{Posted}
 use Rattle.wq_words.specs.declared.answer.Answer.TheVariants as answer
 use Rattle.wq_words.specs.declared.answer.Armed.TheVariants as armed
 use Rattle.wq_words.specs.declared.answer.Posted.TheVariants as posted
-
-same_item : (k : ℕ) → (k == k) ≡ true
-same_item k = grind (arith, nat_tests)
+use Rattle.std.proofs.lemmas.Bool.{eq-eqb}
 
 other_item : (j k : ℕ) → j ≢ k → (j == k) ≡ false
 other_item j k apart = by (j == k) refl
@@ -24,7 +22,7 @@ other_item j k apart = by (j == k) refl
 -- a placed item is on it, and every other is as it was
 pub placed_on : (e : Entry) (t u : List Entry) → u ≡ placed e t → on_table e.item u ≡ true
 placed_on e t u is =
-    ap (λ (z : List Entry). on_table e.item z) is ∙ (on_table-placed e.item e t ∙ ap (λ (z : Bool). z || on_table e.item t) (same_item e.item))
+    ap (λ (z : List Entry). on_table e.item z) is ∙ (on_table-placed e.item e t ∙ ap (λ (z : Bool). z || on_table e.item t) (eq-eqb e.item e.item refl))
 
 pub placed_others : (j : ℕ) (e : Entry) (t u : List Entry) → u ≡ placed e t → j ≢ e.item → on_table j u ≡ on_table j t
 placed_others j e t u is apart =
@@ -33,7 +31,7 @@ placed_others j e t u is apart =
 -- an item taken off is not on it, and every other is as it was
 pub without_at : (k : ℕ) (t u : List Entry) → u ≡ without k t → on_table k u ≡ false
 without_at k t u is =
-    ap (λ (z : List Entry). on_table k z) is ∙ (on_table-without k k t ∙ ap (λ (z : Bool). not z && on_table k t) (same_item k))
+    ap (λ (z : List Entry). on_table k z) is ∙ (on_table-without k k t ∙ ap (λ (z : Bool). not z && on_table k t) (eq-eqb k k refl))
 
 pub without_others : (j k : ℕ) (t u : List Entry) → u ≡ without k t → j ≢ k → on_table j u ≡ on_table j t
 without_others j k t u is apart =

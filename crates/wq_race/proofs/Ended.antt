@@ -12,7 +12,6 @@ use Rattle.wq_words.specs.declared.event.Why.TheVariants as why
 use Rattle.wq_words.specs.Limits.{most_text_items}
 use Rattle.wq_words.proofs.Order.{in_order}
 use Rattle.wq_worker.proofs.Draining.{begun-complete}
-use Rattle.wq_worker.proofs.Phase.{drains_own}
 use Rattle.wq_ledger.specs.declared.totals.Totals.{Totals}
 use Rattle.wq_ledger.specs.Balance.{Balances}
 use Rattle.wq_race.specs.declared.outcome.Outcome.{Outcome}
@@ -21,6 +20,7 @@ use Rattle.wq_race.proofs.Serving.{chains_same, asks_same}
 use Rattle.wq_race.proofs.Events.{Has, own_has, was_allowed}
 use Rattle.wq_race.proofs.Whole.{IsRace, was_queued, all_accepted, below_counted, queued_own, pushes, length-queueings}
 use Rattle.wq_race.proofs.Balanced.{AreNumbered, whole_counts, one_ledger, last_ledger, none_made, always_balanced}
+use Rattle.wq_words.proofs.ShutOwn.{drain_own}
 
 -- where a history has run to its end, what was accepted has ended
 pub all_ended : (layout : Layout) (h : List Event) → IsLegal layout h → IsComplete h → ended h ≡ accepted h
@@ -94,7 +94,7 @@ module _ (plan : Plan) (team : Team) (w : WorkerState Idle) (senders : List Know
         queued = subst (λ (es : List Event). SendsAll s (items_at s plan.own) es) (sym (heard ∙ before)) first.queued;
         opens = λ j cause refusal has.
             never_refused now.layout s j cause now.seen w.seen refusal k.legal k.known (closed_count team.worker.seen w.seen o.met.untouched ∙ o.run.unclosed)
-            (count_same is_drain owner_seat drains_own team.worker.seen w.seen o.met.untouched ∙ o.run.undrained)
+            (count_same is_drain owner_seat drain_own team.worker.seen w.seen o.met.untouched ∙ o.run.undrained)
             (own_has s (Back s j cause) now.seen (subst (λ (es : List Event). Has (Back s j cause) es) heard has));
       }
 

@@ -5,15 +5,14 @@ use Rattle.wq_race.proofs.Common.{AllByRecursion, QueueId, Layout, Event, IsRunn
 use Rattle.wq_race.proofs.Common.{count_same, begun_same, Known}
 use Rattle.wq_race.proofs.Common.{new_sender, is_chain, is_chain_busy, SendsAll, Plan, Team, IsLayoutOf, IsNewTeam, items_at, HasQueued, IsOfStop, HasStopped}
 use Rattle.wq_race.proofs.Common.{HasServed, HasRaced, length-new_senders, get_or-new_senders, AllQueued, IsQueuer}
-use Rattle.wq_words.proofs.ShutOwn.{shut_same}
-use Rattle.wq_worker.proofs.Phase.{drains_own}
+use Rattle.wq_words.proofs.ShutOwn.{shut_same, drain_own}
 use Rattle.wq_race.proofs.Serving.{chains_same, asks_same}
 
 pub untouched_unclosed : (h : List Event) → own owner_seat h ≡ [] → count_by is_close h ≡ 0
 untouched_unclosed h none = closed_count [] h none
 
 pub untouched_undrained : (h : List Event) → own owner_seat h ≡ [] → count_by is_drain h ≡ 0
-untouched_undrained h none = count_same is_drain owner_seat drains_own [] h none
+untouched_undrained h none = count_same is_drain owner_seat drain_own [] h none
 
 pub untouched_open : (h : List Event) → own owner_seat h ≡ [] → ¬ IsShut h
 untouched_open h none shut = let never : IsShut [] = shut_same h [] (sym none) shut in omega (arith, never)

@@ -1,5 +1,5 @@
 -- The sum of what the senders of a queue have counted.
-use Rattle.std.proofs.Common.{◌≡◌, ◌≢◌, ℕ, zero, suc, ◌+◌, ◌≤◌, ◌<◌, Bool, true, false, cond, ◌==◌, List, [], ◌∷◌, ◌++◌, length, count_by, sym, ap}
+use Rattle.std.proofs.Common.{◌≡◌, ◌≢◌, ℕ, zero, suc, ◌+◌, ◌≤◌, ◌<◌, cond, ◌==◌, List, [], ◌∷◌, ◌++◌, length, count_by, sym, ap}
 use Rattle.std.proofs.Common.{◌∙◌, subst, add-one, arith}
 use Rattle.wq_words.specs.declared.layout.Layout.{Layout}
 use Rattle.wq_words.specs.declared.event.Event.{Event}
@@ -9,7 +9,7 @@ use Rattle.wq_words.specs.Legal.{IsLegal, IsComplete}
 use Rattle.wq_words.specs.Counting.{is_queued_by, is_chain}
 use Rattle.wq_words.proofs.Seen.{count_same}
 use Rattle.wq_words.proofs.Counting.{queued_own}
-use Rattle.wq_words.proofs.Appended.{accepted-count, count_by-append, count_by-cons}
+use Rattle.wq_words.proofs.Appended.{accepted-count, count_by-append, count_by-cons, at_most_one}
 use Rattle.wq_live.specs.Counts.{sender_counts, owner_counts}
 use Rattle.wq_calls.proofs.Final.{final}
 use Rattle.wq_ledger.specs.Balance.{AreOwnerWhole, largest}
@@ -17,11 +17,7 @@ use Rattle.wq_ledger.proofs.Pushes.{is_queued_below, below_more, below_none, bel
 use Rattle.wq_seats.specs.Sums.{queued_below, IsOfQueue, HaveCounted}
 
 one_of : (s : ℕ) (e : Event) → cond {A = ℕ} (is_queued_by s e) 1 0 ≤ cond {A = ℕ} (is_push e) 1 0
-one_of s (Push t k) = at_most (t == s)
-  where
-    at_most : (b : Bool) → cond {A = ℕ} b 1 0 ≤ 1
-    at_most true = omega arith
-    at_most false = omega arith
+one_of s (Push t k) = at_most_one (t == s)
 one_of s _ = omega arith
 
 -- one sender has pushed at most as often as all have

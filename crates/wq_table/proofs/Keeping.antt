@@ -11,7 +11,7 @@ use Rattle.wq_words.specs.Keeper.{Sender, Listed, Owner, taken_over}
 use Rattle.wq_words.proofs.Growing.{filter_map_push_none}
 use Rattle.wq_words.proofs.Keepers.{IsQueue, queue_from_bit, kept}
 use Rattle.wq_words.proofs.Order.{in_order}
-use Rattle.wq_words.proofs.Places.{counted_once, counted_twice, keeps_from_keeper}
+use Rattle.wq_words.proofs.Places.{counted_twice, keeps_from_keeper}
 use Rattle.wq_core.specs.Sound.{AreChained, IsChain}
 use Rattle.wq_words.proofs.Times.{times, times-reverse_aux, times-first}
 use Rattle.wq_words.specs.Listed.{listed}
@@ -20,13 +20,10 @@ use Rattle.wq_words.proofs.Keepers.{keeper_push, Gives}
 use Rattle.wq_words.proofs.Accepted.{queue_once}
 use Rattle.wq_table.specs.Slots.{IsSenders}
 
--- a number that waits is kept by the list or the owner, and has one place
+-- a number that waits has one place
 module _ (layout : Layout) (h : List Event) (legal : IsLegal layout h) (k : ℕ) where
   front : IsPrefix (begun h) (accepted h)
   front = (in_order layout h legal).begun_first
-
-  pub waiting_queue : (i : ℕ) → length (begun h) ≤ i → slice_get (accepted h) i ≡ Some k → IsQueue (keeper h k)
-  waiting_queue i le at = queue_from_bit (keeper h k) (omega (arith, (kept layout h legal 0 k).2, counted_once (begun h) (accepted h) k i front le at))
 
   pub waiting_once : (i l : ℕ) → length (begun h) ≤ i → i < l → slice_get (accepted h) i ≡ Some k → slice_get (accepted h) l ≡ Some k → ⊥
   waiting_once i l le lt at there =

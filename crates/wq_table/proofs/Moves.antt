@@ -22,8 +22,9 @@ use Rattle.wq_table.specs.Slots.{HomesFit, IsSenders}
 use Rattle.wq_core.specs.declared.step.Step.TheVariants as step
 use Rattle.wq_table.specs.SlotSteps.{Goes}
 use Rattle.wq_table.proofs.Shelves.{fits_still, fits_taken, fits_emptied, fits_brought, fits_chained}
-use Rattle.wq_table.proofs.Keeping.{waiting_queue, waiting_once, queue_home, queue_sender, gone, came, begun_same, over_home}
+use Rattle.wq_table.proofs.Keeping.{waiting_once, queue_home, queue_sender, gone, came, begun_same, over_home}
 use Rattle.wq_table.proofs.Keeping.{batch_once, over_sends, away_other, away_gone, held_none_out}
+use Rattle.wq_words.proofs.Places.{waiting_queue}
 
 module _ {V : Type 0} where
   -- an event that accepts and begins nothing, and brings nothing home

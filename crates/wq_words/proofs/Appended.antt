@@ -3,7 +3,7 @@ use Rattle.wq_words.proofs.Common.{◌≡◌, ℕ, suc, ◌+◌, ◌-◌, ◌≤
 use Rattle.wq_words.proofs.Common.{count_by, reverse, take, get_or, ◌<◌, inl, inr, take-append-drop, drop-cons, after_last, before_last, prefix_len}
 use Rattle.wq_words.proofs.Common.{length-reverse, get_or-reverse, cases_lt, filter_map-append, sum_by-append, sum_by-cons, prefix_len-le-length}
 use Rattle.wq_words.proofs.Common.{prefix_len_stops, Event, Push, Take, Rest, accepted, accepted_by, begun, begun_by, ended, ended_by, fresh, is_push, is_chain}
-use Rattle.wq_words.proofs.Common.{is_cut}
+use Rattle.wq_words.proofs.Common.{is_cut, IsPrefix}
 use Rattle.wq_words.proofs.Lasts.{after_last_push_no}
 use Rattle.std.proofs.lemmas.Bool.{not-false}
 
@@ -13,8 +13,16 @@ count_by-append p xs ys = sum_by-append (λ x. cond (p x) 1 0) xs ys
 pub count_by-cons : {X : Type 0} (p : X → Bool) (x : X) (xs : List X) → count_by p (x ∷ xs) ≡ cond (p x) 1 0 + count_by p xs
 count_by-cons p x xs = sum_by-cons (λ y. cond (p y) 1 0) x xs
 
+-- a test counts an event at most once
+pub at_most_one : (b : Bool) → cond {A = ℕ} b 1 0 ≤ 1
+at_most_one true = omega arith
+at_most_one false = omega arith
+
 pub accepted-append : (h es : List Event) → accepted (h ++ es) ≡ accepted h ++ accepted es
 accepted-append h es = filter_map-append accepted_by h es
+
+pub prefix_accepted : (v w : List Event) → IsPrefix v w → IsPrefix (accepted v) (accepted w)
+prefix_accepted v w front = (accepted front.0, sym (accepted-append v front.0) ∙ ap accepted front.1)
 
 pub begun-append : (h es : List Event) → begun (h ++ es) ≡ begun h ++ begun es
 begun-append h es = filter_map-append begun_by h es

@@ -2,6 +2,7 @@
 use Rattle.wq_words.proofs.Common.{◌≡◌, ℕ, ◌+◌, ◌<◌, ◌≤◌, ◌==◌, Bool, true, false, cond, not, ◌||◌, ◌&&◌, List, [], ◌∷◌, ◌++◌, length, refl, sym, ap, ◌∙◌}
 use Rattle.wq_words.proofs.Common.{arith, nat_lt, nat_le, AllByRecursion, nat_tests}
 use Rattle.wq_words.specs.DelayTable.{Entry, on_table, due_part, later_part, placed, without, IsBefore, IsOrdered, AreArmedBefore}
+use Rattle.std.proofs.lemmas.Bool.{and_right}
 
 pub first_false : (p q : Bool) → (p || q) ≡ false → p ≡ false
 first_false true q is = cc
@@ -104,12 +105,8 @@ pub ordered-without : (k : ℕ) (es : List Entry) → IsOrdered es → IsOrdered
 ordered-without k [] ordered = tt
 ordered-without k (f ∷ fs) ordered = by (not (k == f.item)) (ordered-without k fs ordered.2)
   where
-    still : (b r : Bool) → r ≡ false → (b && r) ≡ false
-    still true r is = is
-    still false r is = refl
-
     by : (b : Bool) → IsOrdered (without k fs) → IsOrdered (cond b (f ∷ without k fs) (without k fs))
-    by true rest = (all-without (IsBefore f) k fs ordered.0, on_table-without f.item k fs ∙ still _ _ ordered.1, rest)
+    by true rest = (all-without (IsBefore f) k fs ordered.0, on_table-without f.item k fs ∙ and_right _ _ ordered.1, rest)
     by false rest = rest
 
 -- an item that is not on it

@@ -8,6 +8,7 @@ use Rattle.wq_words.proofs.Prefixes.{prefix_step}
 use Rattle.wq_words.proofs.Order.{IsInOrder, in_order}
 use Rattle.wq_words.proofs.Growing.{growing, count_by_push}
 use Rattle.wq_words.proofs.Legal.{legal_induction}
+use Rattle.wq_words.proofs.Appended.{at_most_one}
 
 -- the keeper of each number after one event more
 pub keeper_push : (h : List Event) (e : Event) (k : ℕ) → keeper (h ++ e ∷ []) k ≡ keeper_after k (keeper h k) e
@@ -50,6 +51,10 @@ pending_bit _ = 1
 abbrev pub held_bit : ℕ → Keeper → ℕ
 held_bit s (Sender t) = cond (t == s) 1 0
 held_bit s _ = 0
+
+pub held_once : (s : ℕ) (x : Keeper) → held_bit s x ≤ 1
+held_once s (Sender t) = at_most_one (t == s)
+held_once s _ = omega arith
 
 abbrev pub queue_bit : Keeper → ℕ
 queue_bit Listed = 1

@@ -172,8 +172,9 @@ module _ (layout : Layout) (h : List Event) (legal : IsLegal layout h) (k : ℕ)
   front : IsPrefix (begun h) (accepted h)
   front = (in_order layout h legal).begun_first
 
-  listed_or_owner : (i : ℕ) → length (begun h) ≤ i → slice_get (accepted h) i ≡ Some k → IsQueue (keeper h k)
-  listed_or_owner i le at = queue_from_bit (keeper h k) (omega (arith, kept_once refl, counted_once (begun h) (accepted h) k i front le at))
+  -- what waits is kept by the list or the owner
+  pub waiting_queue : (i : ℕ) → length (begun h) ≤ i → slice_get (accepted h) i ≡ Some k → IsQueue (keeper h k)
+  waiting_queue i le at = queue_from_bit (keeper h k) (omega (arith, kept_once refl, counted_once (begun h) (accepted h) k i front le at))
 
   not_twice : (x : Keeper) (i l : ℕ) → keeper h k ≡ x → queue_bit x ≡ 1 → length (begun h) ≤ i → i < l → slice_get (accepted h) i ≡ Some k
       → slice_get (accepted h) l ≡ Some k → ⊥
@@ -194,8 +195,8 @@ module _ (layout : Layout) (h : List Event) (legal : IsLegal layout h) (k : ℕ)
   pub keeper_from_keeps : (x : Keeper) → Keeps h k x → keeper h k ≡ x
   keeper_from_keeps Home w = home_from_bit (keeper h k) (omega (arith, (kept layout h legal 0 k).1, w))
   keeper_from_keeps (Sender s) w = sender_from_bit s (keeper h k) (omega (arith, (kept layout h legal s k).0))
-  keeper_from_keeps Listed w = is_list (keeper h k) refl (listed_or_owner w.0 w.1 w.3) w
-  keeper_from_keeps Owner w = is_owner (keeper h k) refl (listed_or_owner w.0 w.1 w.3) w
+  keeper_from_keeps Listed w = is_list (keeper h k) refl (waiting_queue w.0 w.1 w.3) w
+  keeper_from_keeps Owner w = is_owner (keeper h k) refl (waiting_queue w.0 w.1 w.3) w
 
   pub keeps_from_keeper : (x : Keeper) → keeper h k ≡ x → Keeps h k x
   keeps_from_keeper Home e = λ lt. absurd (omega (arith, rw e at ((kept layout h legal 0 k).1)))

@@ -1,9 +1,10 @@
 -- Lists of events, and those of one seat among them.
 use Rattle.wq_words.proofs.Common.{◌≡◌, ℕ, ◌≢◌, Bool, true, false, cond, not, eqb, ◌==◌, List, [], ◌∷◌, ◌++◌, length, Option, Some, None, sym, refl, ap, ◌∙◌}
-use Rattle.wq_words.proofs.Common.{arith, append_assoc, eq-eqb, ne_eqb, count_by, filter, filter_map, ◌&&◌, ◌||◌, append-nil, sum_by-cons, filter-append}
+use Rattle.wq_words.proofs.Common.{arith, append_assoc, eq-eqb, ne_eqb, count_by, filter, filter_map, ◌||◌, append-nil, sum_by-cons, filter-append}
 use Rattle.wq_words.proofs.Common.{IsPrefix, Event, Hold, Push, Back, Close, Begin, End, Holds, starts_hold, stops_hold, is_close, IsClosed, begun_by}
 use Rattle.wq_words.proofs.Common.{ended_by, begun, ended, IsRunning, owner_seat, seat_of, own, others, is_ours, Grows}
 use Rattle.wq_words.proofs.Prefixes.{left_nil, nothing_more}
+use Rattle.std.proofs.lemmas.Bool.{and_right}
 
 module _ {A : Type 0} (p q : A → Bool) (only : (x : A) → q x ≡ false → p x ≡ false) where
   keep_step : (b : Bool) (x : A) (ys xs : List A) → (b ≡ false → p x ≡ false) → filter p ys ≡ filter p xs
@@ -97,17 +98,13 @@ pub count_same : (p : Event → Bool) (c : ℕ) → ((e : Event) → eqb (seat_o
     → count_by p w ≡ count_by p v
 count_same p c only v w same = count_own p c only w ∙ (ap (count_by p) same ∙ sym (count_own p c only v))
 
-and_last : (a b : Bool) → b ≡ false → (a && b) ≡ false
-and_last true b is = is
-and_last false b is = refl
-
 pub starts_own : (s k : ℕ) (e : Event) → eqb (seat_of e) s ≡ false → starts_hold s k e ≡ false
-starts_own s k (Hold t j) is = and_last (eqb j k) (eqb t s) is
+starts_own s k (Hold t j) is = and_right (eqb j k) (eqb t s) is
 starts_own s k _ is = refl
 
 pub stops_own : (s k : ℕ) (e : Event) → eqb (seat_of e) s ≡ false → stops_hold s k e ≡ false
-stops_own s k (Push t j) is = and_last (eqb j k) (eqb t s) is
-stops_own s k (Back t j why) is = and_last (eqb j k) (eqb t s) is
+stops_own s k (Push t j) is = and_right (eqb j k) (eqb t s) is
+stops_own s k (Back t j why) is = and_right (eqb j k) (eqb t s) is
 stops_own s k _ is = refl
 
 -- who has the same own events holds the same

@@ -4,7 +4,7 @@ use Rattle.wq_words.proofs.Common.{after_last, append-nil, Event, Drain, Resume,
 use Rattle.wq_words.proofs.Seen.{own-append, count_own, close_own}
 use Rattle.wq_words.proofs.Lasts.{after_last_push_yes, after_last_push_no}
 
-drain_own : (e : Event) → eqb (seat_of e) owner_seat ≡ false → is_drain e ≡ false
+pub drain_own : (e : Event) → eqb (seat_of e) owner_seat ≡ false → is_drain e ≡ false
 drain_own Drain is = is
 drain_own _ is = refl
 

@@ -1,22 +1,16 @@
 -- Lists that are written to, or grow, one place after another.
-use Rattle.wq_words.proofs.Common.{◌≡◌, ◌≢◌, ℕ, ◌+◌, ◌<◌, ◌≤◌, List, [], ◌∷◌, ◌++◌, length, take, drop, get_or, set, inl, inr, sym, ap, ◌∙◌, subst, arith}
-use Rattle.wq_words.proofs.Common.{length-append, cases_lt, get_or-set_other, get_or-set_same, get_or_default}
+use Rattle.wq_words.proofs.Common.{◌≡◌, ◌≢◌, ℕ, ◌+◌, ◌<◌, ◌≤◌, List, [], ◌∷◌, ◌++◌, length, take, drop, get_or, set, sym, ap, ◌∙◌, subst, arith}
+use Rattle.wq_words.proofs.Common.{length-append, get_or-set_other, get_or-set_same, get_or_default}
 use Rattle.std.proofs.Math.ListN.{get_or-append}
 use Rattle.std.proofs.Math.Seq.{get_or-append_seam}
 use Rattle.wq_words.proofs.Growing.{take_length}
-
--- what holds of each place below i and of i holds of each below the next
-each_place_more : (P : ℕ → Type 0) (i : ℕ) → ((k : ℕ) → k < i → P k) → P i → (k : ℕ) → k < i + 1 → P k
-each_place_more P i below here k lt = elim (cases_lt k i) [
-  | inl less ↦ below k less
-  | inr ge ↦ let same : i ≡ k = omega (arith, lt, ge) in subst P same here
-]
+use Rattle.std.proofs.Common.{below_more}
 
 -- what holds of each of the elements at its place holds where one comes behind them
 pub each_more : {A : Type 0} (P : ℕ → A → Type 0) (xs : List A) (x : A) → ((i : ℕ) (d : A) → i < length xs → P i (get_or xs i d)) → P (length xs) x
     → (i : ℕ) (d : A) → i < length (xs ++ x ∷ []) → P i (get_or (xs ++ x ∷ []) i d)
 each_more P xs x before here i d lt =
-    each_place_more (λ k. P k (get_or (xs ++ x ∷ []) k d)) (length xs)
+    below_more (λ k. P k (get_or (xs ++ x ∷ []) k d)) (length xs)
     (λ k less. subst (P k) (sym (get_or-append xs (x ∷ []) d k less)) (before k d less))
     (subst (P (length xs)) (sym (get_or-append_seam xs x [] d)) here) i (omega (arith, lt, length-append xs (x ∷ [])))
 
@@ -26,7 +20,7 @@ pub each_written : {A : Type 0} (P : A → A → Type 0) (olds news : List A) (i
     → ((k : ℕ) (d : A) → k < i → P (get_or olds k d) (get_or news k d)) → ((k : ℕ) (d : A) → i ≤ k → get_or news k d ≡ get_or olds k d)
     → P (get_or news i y) x → (k : ℕ) (d : A) → k < i + 1 → P (get_or olds k d) (get_or (set news i x) k d)
 each_written {A} P olds news i x y here below rest at k d lt =
-    each_place_more (λ k. P (get_or olds k d) (get_or (set news i x) k d)) i
+    below_more (λ k. P (get_or olds k d) (get_or (set news i x) k d)) i
     (λ k less. let ne : k ≢ i = omega arith in subst (λ (z : A). P (get_or olds k d) z) (sym (get_or-set_other news i k x d ne)) (below k d less))
     (subst (λ (z : A). P (get_or olds i d) z) (sym (get_or-set_same news i x d here))
     (subst (λ (z : A). P z x) (get_or_default news i y d here ∙ rest i d (omega arith)) at)) k lt

@@ -7,16 +7,14 @@ use Rattle.wq_worker.proofs.Common.{Layout, items_among}
 use mathlib.Core.List.{IsPrefix}
 use Rattle.std.specs.Prelude.{nat_lt}
 use Rattle.std.proofs.lemmas.List.Elements.{filter-append}
-use Rattle.wq_words.specs.History.{accepted_by, ended_by}
+use Rattle.wq_words.specs.History.{ended_by}
 use Rattle.wq_words.proofs.Closed.{closed_shuts}
 use Rattle.wq_words.proofs.Prefixes.{prefix_self, prefix_on, prefix_whole}
 use Rattle.wq_worker.specs.Step.{ends}
 use Rattle.wq_worker.specs.declared.drained.Drained.{Drained}
 use Rattle.wq_worker.specs.declared.drained.Drained.TheVariants.{Empty, TooLong}
 use Rattle.wq_worker.specs.Rows.{GoesOn, IsExecution, IsNotStop, RunsSomeBy, full, broken, ServesBy, DrainsBy, Closes, was_closed, closes, was_shut}
-
-pub accepted_more : (v w : List Event) → IsPrefix v w → IsPrefix (accepted v) (accepted w)
-accepted_more v w p = (accepted p.0, sym (filter_map-append accepted_by v p.0) ∙ ap accepted p.1)
+use Rattle.wq_words.proofs.Appended.{prefix_accepted}
 
 pub begun_more : (v w : List Event) → IsPrefix v w → IsPrefix (begun v) (begun w)
 begun_more v w p = (begun p.0, sym (filter_map-append begun_by v p.0) ∙ ap begun p.1)
@@ -114,7 +112,7 @@ module _ {W : Type 0} (may : W → ℕ → List ℕ → W → Type 0) (gives : W
   pub drained_ended : (P : Ran → Type 0) (n : ℕ) (a m b c : WorkerState W) → Shuts a m → RowBy may gives P n m b → IsLegal b.layout b.seen → HasRunOut b.seen
       → Resumes b c → IsPrefix (accepted a.seen) (ended c.seen)
   drained_ended P n a m b c shuts row legal out resumes =
-      let before = accepted_more a.seen b.seen (prefix_on a.seen m.seen b.seen (shuts_seen a m shuts) (row_seen P n m b row)) in
+      let before = prefix_accepted a.seen b.seen (prefix_on a.seen m.seen b.seen (shuts_seen a m shuts) (row_seen P n m b row)) in
       let after = ended_more b.seen c.seen (resumes_seen b c resumes) in
       prefix_on (accepted a.seen) (ended b.seen) (ended c.seen)
       (prefix_on (accepted a.seen) (accepted b.seen) (ended b.seen) before (out_ended b.seen b.layout legal out)) after

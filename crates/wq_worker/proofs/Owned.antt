@@ -5,7 +5,8 @@ use Rattle.wq_worker.proofs.Common.{is_ours, Adds, is_turn}
 use Rattle.wq_words.specs.History.{ended_by, is_close, is_drain}
 use Rattle.wq_words.proofs.Seen.{filter-filter, own-own, begun_same, ended_same, closed_count, count_own, count_same}
 use Rattle.wq_calls.proofs.Owned.{begun_on, ended_on, closes_on}
-use Rattle.wq_worker.proofs.Phase.{turns_own, drains_own, SamePhase, drains_on, phase_grown}
+use Rattle.wq_worker.proofs.Phase.{turns_own, SamePhase, drains_on, phase_grown}
+use Rattle.wq_words.proofs.ShutOwn.{drain_own}
 
 -- from v to w the owner's events among these were added
 pub record OwnerAdds (es v w : List Event) : Type 0 where
@@ -46,7 +47,7 @@ owner_of_both s es n v w a =
       begun_is = begun_on mine 0 v w g ∙ ap (λ (z : List ℕ). begun v ++ z) (begun_same es mine (own-own owner_seat es));
       ended_is = ended_on mine 0 v w g ∙ ap (λ (z : List ℕ). ended v ++ z) (ended_same es mine (own-own owner_seat es));
       closes = omega (arith, closes_on mine 0 v w g, closed_count es mine (own-own owner_seat es));
-      drains = omega (arith, drains_on mine 0 v w g, count_same is_drain owner_seat drains_own es mine (own-own owner_seat es));
+      drains = omega (arith, drains_on mine 0 v w g, count_same is_drain owner_seat drain_own es mine (own-own owner_seat es));
       phase = λ none. phase_grown mine 0 v w g (sym (count_own is_turn owner_seat turns_own es) ∙ none);
     }
 

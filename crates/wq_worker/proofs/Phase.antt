@@ -6,16 +6,13 @@ use Rattle.wq_words.specs.History.{is_drain, closed}
 use Rattle.wq_words.proofs.Closed.{closed_from_IsClosed, IsClosed_from_closed, open_from_closed}
 use Rattle.wq_calls.proofs.Counting.{count_on}
 use Rattle.wq_calls.proofs.Phases.{closed_quiet, shut_still as shut_quiet}
+use Rattle.wq_words.proofs.ShutOwn.{drain_own}
 
 pub turns_own : (e : Event) → eqb (seat_of e) owner_seat ≡ false → is_turn e ≡ false
 turns_own Close is = is
 turns_own Drain is = is
 turns_own Resume is = is
 turns_own _ is = refl
-
-pub drains_own : (e : Event) → eqb (seat_of e) owner_seat ≡ false → is_drain e ≡ false
-drains_own Drain is = is
-drains_own _ is = refl
 
 -- whether it takes pushes, and whether it is closed, is as before
 pub record SamePhase (v w : List Event) : Type 0 where
@@ -51,7 +48,7 @@ closed_else h is not = go (closed h) refl
 
 module _ (es : List Event) (n : ℕ) (v w : List Event) (g : Grows owner_seat es n v w) where
   pub drains_on : count_by is_drain w ≡ count_by is_drain v + count_by is_drain es
-  drains_on = count_on is_drain owner_seat drains_own es n v w g
+  drains_on = count_on is_drain owner_seat drain_own es n v w g
 
   -- where the owner neither closes nor drains nor resumes
   pub phase_grown : count_by is_turn es ≡ 0 → SamePhase v w
