@@ -18,6 +18,10 @@ pub count_one : (p : Event → Bool) (e : Event) (b : Bool) → p e ≡ b → co
 count_one p e b is = let a : count_by p (e ∷ []) ≡ 0 + cond (p e) 1 0 = count_by_push p [] e in
     let z : ◌≡◌ {A = ℕ} (cond (p e) 1 0) (cond b 1 0) = ap (λ (x : Bool). cond x 1 0) is in omega arith
 
+-- what is added to a capped count
+pub more_capped : (x y o z : ℕ) → o ≡ capped x → z ≡ x + y → capped (o + y) ≡ capped z
+more_capped x y o z e f = omega arith
+
 -- the counts after a step, where these are what it adds
 pub counted : (s : ℕ) (xs : List Event) (n : ℕ) (v w : List Event) (a b c f d : ℕ) → Grows s xs n v w
     → count_by (is_queued_by s) xs ≡ a → count_by (is_pending_by s) xs ≡ b → count_by (is_closed_by s) xs ≡ c → count_by (is_draining_by s) xs ≡ f
@@ -38,23 +42,20 @@ counted s xs n v w a b c f d g qa pb cc' df kd old is =
     let r = count_on (is_draining_by s) s (draining_own s) xs n v w g in let r0 = ap (λ (x : SenderCounts). x.draining) is in
     let q0 = ap (λ (x : SenderCounts). x.queued) is in let p0 = ap (λ (x : SenderCounts). x.pending) is in
     let l0 = ap (λ (x : SenderCounts). x.closed) is in let k0 = ap (λ (x : SenderCounts). x.contended) is in
-    let eq : capped (old.queued + a) ≡ capped (count_by (is_queued_by s) w) = more (count_by (is_queued_by s) v) a old.queued
+    let eq : capped (old.queued + a) ≡ capped (count_by (is_queued_by s) w) = more_capped (count_by (is_queued_by s) v) a old.queued
     (count_by (is_queued_by s) w) q0 (q ∙ ap (λ (x : ℕ). count_by (is_queued_by s) v + x) qa) in
-    let ep : capped (old.pending + b) ≡ capped (count_by (is_pending_by s) w) = more (count_by (is_pending_by s) v) b old.pending
+    let ep : capped (old.pending + b) ≡ capped (count_by (is_pending_by s) w) = more_capped (count_by (is_pending_by s) v) b old.pending
     (count_by (is_pending_by s) w) p0 (p ∙ ap (λ (x : ℕ). count_by (is_pending_by s) v + x) pb) in
-    let el : capped (old.closed + c) ≡ capped (count_by (is_closed_by s) w) = more (count_by (is_closed_by s) v) c old.closed
+    let el : capped (old.closed + c) ≡ capped (count_by (is_closed_by s) w) = more_capped (count_by (is_closed_by s) v) c old.closed
     (count_by (is_closed_by s) w) l0 (l ∙ ap (λ (x : ℕ). count_by (is_closed_by s) v + x) cc') in
-    let er : capped (old.draining + f) ≡ capped (count_by (is_draining_by s) w) = more (count_by (is_draining_by s) v) f old.draining
+    let er : capped (old.draining + f) ≡ capped (count_by (is_draining_by s) w) = more_capped (count_by (is_draining_by s) v) f old.draining
     (count_by (is_draining_by s) w) r0 (r ∙ ap (λ (x : ℕ). count_by (is_draining_by s) v + x) df) in
-    let ek : capped (old.contended + d) ≡ capped (count_by (is_contended_by s) w) = more (count_by (is_contended_by s) v) d old.contended
+    let ek : capped (old.contended + d) ≡ capped (count_by (is_contended_by s) w) = more_capped (count_by (is_contended_by s) v) d old.contended
     (count_by (is_contended_by s) w) k0 (k ∙ ap (λ (x : ℕ). count_by (is_contended_by s) v + x) kd) in
     λ i. record { queued = eq i; pending = ep i; closed = el i; draining = er i; contended = ek i }
-  where
-    more : (x y o z : ℕ) → o ≡ capped x → z ≡ x + y → capped (o + y) ≡ capped z
-    more x y o z e f = omega arith
 
 -- a capped count is as it was where nothing is added
-same_capped : (x : ℕ) (n : ℕ) → x ≡ capped n → capped (x + 0) ≡ x
+pub same_capped : (x : ℕ) (n : ℕ) → x ≡ capped n → capped (x + 0) ≡ x
 same_capped x n e = omega arith
 
 module _ (s n : ℕ) (v w : List Event) (old : SenderCounts) (is : old ≡ sender_counts s v) where

@@ -4,7 +4,7 @@ use Rattle.wq_calls.proofs.Common.{refl, ap, ◌∙◌, subst, arith, append_ass
 use Rattle.wq_calls.proofs.Common.{Push, Back, Take, Close, Drain, Begin, End, ChainBusy, accepted, accepted_by, begun, begun_by, ended, is_close}
 use Rattle.wq_calls.proofs.Common.{IsClosed, IsShut, IsRunning, running, listed, IsLegal, take-length, keeps_headline, legal_front, legal_next}
 use Rattle.wq_calls.proofs.Common.{in_order, prefix_length, Part, Owns, HasStage, IsClosed_from_closed, closed_shuts}
-use Rattle.wq_calls.proofs.Common.{Owning as Inside, Known, batch, owner_view, Stands, OwnsQueue, kept_batch}
+use Rattle.wq_calls.proofs.Common.{Owning as Inside, Known, batch, owner_view, Stands, OwnsQueue, kept_batch, nil_from_length}
 use Rattle.std.specs.Prelude.{filter_map}
 use Rattle.std.proofs.lemmas.Option.{slice_get_past}
 use Rattle.wq_words.specs.declared.event.Event.TheVariants.{Resume, Chain, Rest}
@@ -16,7 +16,6 @@ use Rattle.std.proofs.lemmas.Bool.{false_from_ne_true}
 use Rattle.wq_words.proofs.Closed.{closed_from_IsClosed}
 use Rattle.wq_calls.specs.Answers.{IsFinal}
 use Rattle.wq_calls.proofs.OwnerTells.{stands_legal, owner_batch}
-use Rattle.wq_calls.proofs.Rows.{none_counted}
 use Rattle.wq_calls.proofs.Taken.{rested_lengths}
 use Rattle.wq_words.proofs.Running.{runs_told, idle_told}
 
@@ -130,7 +129,7 @@ module _ (s : Inside) (now : Known) (view : owner_view s ≡ now) (o : OwnsQueue
   owner_ended shuts none idle = let p = s.chair.part in
       here (λ h. length (ended h) ≡ length (accepted h))
       (ended_rested p.layout p.seen (kept_batch p.stage) (stands_legal p o.stands) (there IsShut shuts) lengths
-      (none_counted (kept_batch p.stage) (omega (arith, none, o.has_row.row_is.count_is)))
+      (nil_from_length (kept_batch p.stage) (omega (arith, none, o.has_row.row_is.count_is)))
       (idle_told p.seen s.running o.running_is idle))
 
   -- as the owner keeps it
@@ -154,7 +153,7 @@ module _ (s : Inside) (now : Known) (view : owner_view s ≡ now) (o : OwnsQueue
 
   -- and the other way round
   pub owner_empty : s.row.count ≡ 0 → batch now.seen ≡ []
-  owner_empty none = sym (owner_batch s now view o) ∙ none_counted (kept_batch s.chair.part.stage) (omega (arith, none, o.has_row.row_is.count_is))
+  owner_empty none = sym (owner_batch s now view o) ∙ nil_from_length (kept_batch s.chair.part.stage) (omega (arith, none, o.has_row.row_is.count_is))
 
   pub owner_quiet : is_some s.running ≡ false → ¬ IsRunning now.seen
   owner_quiet idle = here (λ h. ¬ IsRunning h) (idle_told s.chair.part.seen s.running o.running_is idle)

@@ -2,7 +2,7 @@
 use Rattle.wq_calls.proofs.Common.{◌≡◌, ℕ, Bool, true, false, List, [], ◌∷◌, ◌++◌, length, slice_get, Option, Some, refl, sym, ap, ◌∙◌, subst, arith}
 use Rattle.wq_calls.proofs.Common.{length-append, append-nil, IsPrefix, Layout, Event, Begin, ChainBusy, Answer, accepted, begun, IsLegal, AreBrought}
 use Rattle.wq_calls.proofs.Common.{IsLegalWith, with_values, Part, Learns, learns_more, OwnerSeat, Sees, Rests, owning, owner_view, OwnsSeat}
-use Rattle.wq_calls.proofs.Common.{KnownWith, Learnt, owner_seat, Grows, legal_front, owner_with, AreKnown}
+use Rattle.wq_calls.proofs.Common.{KnownWith, Learnt, owner_seat, Grows, legal_front, owner_with, AreKnown, nil_from_length}
 use Rattle.wq_words.specs.declared.event.Event.TheVariants.{Chain, Rest}
 use Rattle.wq_words.specs.declared.answer.Answer.TheVariants as answer
 use Rattle.wq_words.proofs.Valued.{legal_with}
@@ -51,7 +51,7 @@ module _ {V : Type 0} (s t : OwnerSeat V) (l : Learns 0 s.chair t.chair) (owns :
 pub all_told : {V : Type 0} (v w : List Event) (bs cs : List (Option V)) → IsPrefix bs cs → length bs ≡ length (accepted v) → length cs ≡ length (accepted w)
     → accepted w ≡ accepted v → cs ≡ bs
 all_told v w bs cs front many now same =
-    sym front.1 ∙ (ap (λ (z : List (Option _)). bs ++ z) (none_more front.0 (omega (
+    sym front.1 ∙ (ap (λ (z : List (Option _)). bs ++ z) (nil_from_length front.0 (omega (
       arith,
       many,
       now,
@@ -59,10 +59,6 @@ all_told v w bs cs front many now same =
       ap length front.1,
       length-append bs front.0,
     ))) ∙ append-nil bs)
-  where
-    none_more : {X : Type 0} (xs : List X) → length xs ≡ 0 → xs ≡ []
-    none_more [] none = refl
-    none_more (x ∷ xs) none = absurd (omega arith)
 
 -- an owner that met another seat
 pub met_handed : {V : Type 0} (old new : KnownWith V) → old.known.number ≡ owner_seat → Sees [] 0 old.known new.known → Learnt old new

@@ -1,13 +1,13 @@
 -- A row hung behind another, and a row without its first number.
 use Rattle.wq_calls.proofs.Common.{◌≡◌, ◌≢◌, ℕ, ◌+◌, ◌-◌, ◌<◌, ◌≤◌, Bool, if◌then◌else◌, List, [], ◌∷◌, ◌++◌, length, None, Some, sym, refl, ap, ◌∙◌}
-use Rattle.wq_calls.proofs.Common.{subst, arith, length-append, ne_eqb, append-nil, number_count, number_at, Walk, Chain, Turn, times, times-cons}
+use Rattle.wq_calls.proofs.Common.{subst, arith, length-append, ne_eqb, append-nil, number_count, number_at, Walk, Chain, Turn, times, times-cons, nil_from_length}
 use Rattle.wq_calls.proofs.Common.{times-first, times-append, Part, Owns, Makes, Row, link_in, LinksOn, IsRowOf, Stands, HasRow, HasBoth, kept_batch}
 use Rattle.std.proofs.Common.{◌^◌}
 use Rattle.wq_core.specs.declared.step.Step.TheVariants.{Begin}
 use Rattle.wq_table.specs.Chair.{IsToWalk, IsToTurn}
 use Rattle.wq_calls.specs.Row.{LinksFrom}
 use Rattle.wq_calls.specs.Sits.{Turned, HasFirst}
-use Rattle.wq_calls.proofs.Rows.{on_same, last_in, on_hung, none_counted}
+use Rattle.wq_calls.proofs.Rows.{on_same, last_in, on_hung}
 use Rattle.wq_calls.proofs.Tells.{Tells}
 use Rattle.wq_calls.proofs.Taking.{number_small}
 use Rattle.wq_calls.proofs.Linking.{keeps_once, keeps_number, row_after, has_row, turn_stage, turn_tells, turn_here, turn_else, to_turn, to_load, load_stage, load_finds, makes_links}
@@ -40,13 +40,13 @@ module _ (row more : Row) (p : Part) (stands : Stands p) (both : HasBoth row mor
   -- nothing is hung, and nothing hangs
   pub hang_none : more.count ≡ 0 → HasRow row p
   hang_none none =
-      let nothing : both.back ≡ [] = none_counted both.back (omega (arith, none, both.back_is.count_is)) in
+      let nothing : both.back ≡ [] = nil_from_length both.back (omega (arith, none, both.back_is.count_is)) in
       has_row p row both.front
       (both.stage_is ∙ ap (λ (ks : List ℕ). Owns None [] (both.front ++ ks)) nothing ∙ ap (Owns None []) (append-nil both.front)) both.front_is
 
   pub hang_alone : row.count ≡ 0 → HasRow more p
   hang_alone none =
-      let nothing : both.front ≡ [] = none_counted both.front (omega (arith, none, both.front_is.count_is)) in
+      let nothing : both.front ≡ [] = nil_from_length both.front (omega (arith, none, both.front_is.count_is)) in
       has_row p more both.back (both.stage_is ∙ ap (λ (ks : List ℕ). Owns None [] (ks ++ both.back)) nothing) both.back_is
 
   module _ (q : Part) (turns : Makes (Turn row.last (Some more.front)) (more.front + 1) p q) where
@@ -134,7 +134,7 @@ module _ (row : Row) (p : Part) (has : HasRow row p) (some : 0 < row.count) wher
   -- where it is the only one, nothing is left
   pub first_only : row.count ≡ 1 → HasFirst row.front (record { front = 0; last = 0; count = 0 }) p
   first_only one =
-      let nothing : first_of_row.0 ≡ [] = none_counted first_of_row.0 (omega (arith, one, first_of_row.2)) in record {
+      let nothing : first_of_row.0 ≡ [] = nil_from_length first_of_row.0 (omega (arith, one, first_of_row.2)) in record {
         others = [];
         stage_is = first_of_row.1 ∙ ap (λ (ks : List ℕ). Owns None [] (row.front ∷ ks)) nothing;
         row_is = record { count_is = refl; spells = tt };

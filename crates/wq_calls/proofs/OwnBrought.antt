@@ -1,7 +1,7 @@
 -- What the queueings of one seat brought, call after call.
 use Rattle.wq_calls.proofs.Common.{◌≡◌, ℕ, zero, suc, Bool, true, false, cond, ◌==◌, if◌then◌else◌, List, [], ◌∷◌, ◌++◌, length, Option, Some, None}
 use Rattle.wq_calls.proofs.Common.{sym, refl, ap, ◌∙◌, arith, slice_get, append-nil, IsPrefix, Event, Hold, Busy, Push, Back, ChainBusy, accepted}
-use Rattle.wq_calls.proofs.Common.{accepted_by, begun_by, owner_seat, seat_of, own, Grows, Sees, Answers, KnownWith, Learnt, answer_of}
+use Rattle.wq_calls.proofs.Common.{accepted_by, begun_by, owner_seat, seat_of, own, Grows, Sees, Answers, KnownWith, Learnt, answer_of, nil_from_length}
 use Rattle.std.specs.Prelude.{filter_map}
 use Rattle.std.specs.List.{cons_option}
 use Rattle.std.proofs.lemmas.Bool.{eq-eqb}
@@ -76,10 +76,6 @@ module _ {V : Type 0} (s : ℕ) where
   pub own_brought_length : (h : List Event) (bs : List (Option V)) → length (own_brought s h bs) ≡ length (accepted (own s h))
   own_brought_length h bs = ap length (is_row h bs bs) ∙ row_length h bs
 
-none_left : {X : Type 0} (xs : List X) → length xs ≡ 0 → xs ≡ []
-none_left [] none = refl
-none_left (x ∷ xs) none = absurd (omega arith)
-
 one_left : {X : Type 0} (xs : List X) → length xs ≡ 1 → (x : X) × (xs ≡ x ∷ [])
 one_left [] one = absurd (omega arith)
 one_left (x ∷ []) one = (x, refl)
@@ -105,7 +101,7 @@ module _ {V : Type 0} (c : ℕ) where
   pub own_still : (xs : List Event) (n : ℕ) (v w : List Event) (bs cs : List (Option V)) → accepted xs ≡ [] → Grows c xs n v w → IsPrefix bs cs
       → length bs ≡ length (accepted v) → own_brought c w cs ≡ own_brought c v bs
   own_still xs n v w bs cs none g front many = let m = own_more xs n v w bs cs g front many in
-      m.1 ∙ (ap (λ (z : List (Option V)). own_brought c v bs ++ z) (none_left m.0 (m.2 ∙ ap length none)) ∙ append-nil (own_brought c v bs))
+      m.1 ∙ (ap (λ (z : List (Option V)). own_brought c v bs ++ z) (nil_from_length m.0 (m.2 ∙ ap length none)) ∙ append-nil (own_brought c v bs))
 
   -- the last of them is e, which accepted k and brought y
   pub own_last : (xs : List Event) (n : ℕ) (e : Event) (k : ℕ) (v w before after : List Event) (bs cs : List (Option V)) (y : Option V)

@@ -8,7 +8,7 @@ use Rattle.wq_calls.specs.declared.counts.OwnerCounts.{OwnerCounts}
 use Rattle.wq_words.proofs.Counting.{chain_own, chain_busy_own}
 use Rattle.wq_words.proofs.Seen.{map_own, begun_own, ended_own, close_own}
 use Rattle.wq_calls.specs.Counts.{owner_counts}
-use Rattle.wq_calls.proofs.Counting.{count_on}
+use Rattle.wq_calls.proofs.Counting.{count_on, more_capped, same_capped}
 
 module _ (xs : List Event) (n : ℕ) (v w : List Event) (g : Grows owner_seat xs n v w) where
   pub begun_on : begun w ≡ begun v ++ begun xs
@@ -32,27 +32,21 @@ module _ (xs : List Event) (n : ℕ) (v w : List Event) (g : Grows owner_seat xs
       let bs : begun w ≡ begun v = begun_on ∙ (ap (λ (x : List ℕ). begun v ++ x) b ∙ append-nil (begun v)) in
       let es : ended w ≡ ended v = ended_on ∙ (ap (λ (x : List ℕ). ended v ++ x) e ∙ append-nil (ended v)) in λ i. slice_get (bs i) (length (es i))
 
-  more : (x y o z : ℕ) → o ≡ capped x → z ≡ x + y → capped (o + y) ≡ capped z
-  more x y o z e f = omega arith
-
   pub counts_on : (a b d : ℕ) → count_by is_chain xs ≡ a → count_by is_chain_busy xs ≡ b → length (ended xs) ≡ d → (old : OwnerCounts) → old ≡ owner_counts v
       → ◌≡◌ {A = OwnerCounts}
       (record { chained = capped (old.chained + a); chain_busy = capped (old.chain_busy + b); ended = capped (old.ended + d) }) (owner_counts w)
   counts_on a b d ca cb cd old is =
-      let ea = more (count_by is_chain v) a old.chained (count_by is_chain w) (ap (λ (x : OwnerCounts). x.chained) is) (omega (arith, chains_on)) in
-      let eb = more (count_by is_chain_busy v) b old.chain_busy (count_by is_chain_busy w) (ap (λ (x : OwnerCounts). x.chain_busy) is) (omega (
+      let ea = more_capped (count_by is_chain v) a old.chained (count_by is_chain w) (ap (λ (x : OwnerCounts). x.chained) is) (omega (arith, chains_on)) in
+      let eb = more_capped (count_by is_chain_busy v) b old.chain_busy (count_by is_chain_busy w) (ap (λ (x : OwnerCounts). x.chain_busy) is) (omega (
         arith,
         busy_on,
       )) in
-      let ed = more (length (ended v)) d old.ended (length (ended w)) (ap (λ (x : OwnerCounts). x.ended) is) (omega (
+      let ed = more_capped (length (ended v)) d old.ended (length (ended w)) (ap (λ (x : OwnerCounts). x.ended) is) (omega (
         arith,
         ap (λ (x : List ℕ). length x) ended_on,
         length-append (ended v) (ended xs),
       )) in
       λ i. record { chained = ea i; chain_busy = eb i; ended = ed i }
-
-  same_capped : (x k : ℕ) → x ≡ capped k → capped (x + 0) ≡ x
-  same_capped x k e = omega arith
 
   -- what is not counted stays
   as_before : (old : OwnerCounts) → old ≡ owner_counts v
@@ -84,12 +78,14 @@ module _ (xs : List Event) (n : ℕ) (v w : List Event) (g : Grows owner_seat xs
       (λ i. record { chained = k.0 i; chain_busy = e i; ended = k.2 i }) ∙ counts_on 0 1 0 ca cb cd old is
 
 -- nothing runs where nothing ran before and no own event came
-pub rests_on : (c : ℕ) (v w : List Event) → c ≡ owner_seat → Grows c [] 0 v w → ¬ IsRunning v → ¬ IsRunning w
-rests_on c v w mine grows rests runs =
-    let g : Grows owner_seat [] 0 v w = subst (λ (d : ℕ). Grows d [] 0 v w) mine grows in
-    let bs = ap (λ (xs : List ℕ). length xs) (begun_on [] 0 v w g ∙ append-nil (begun v)) in
-    let es = ap (λ (xs : List ℕ). length xs) (ended_on [] 0 v w g ∙ append-nil (ended v)) in
+pub idle_still : (n : ℕ) (v w : List Event) → Grows owner_seat [] n v w → ¬ IsRunning v → ¬ IsRunning w
+idle_still n v w g rests runs =
+    let bs = ap (λ (xs : List ℕ). length xs) (begun_on [] n v w g ∙ append-nil (begun v)) in
+    let es = ap (λ (xs : List ℕ). length xs) (ended_on [] n v w g ∙ append-nil (ended v)) in
     rests (omega (arith, runs, bs, es))
+
+pub rests_on : (c : ℕ) (v w : List Event) → c ≡ owner_seat → Grows c [] 0 v w → ¬ IsRunning v → ¬ IsRunning w
+rests_on c v w mine grows = idle_still 0 v w (subst (λ (d : ℕ). Grows d [] 0 v w) mine grows)
 
 -- what runs once k began, and once what ran has ended
 pub running_begun : (k n : ℕ) (v w : List Event) → Grows owner_seat (Begin k ∷ []) n v w → length (ended v) ≡ length (begun v) → running w ≡ Some k

@@ -3,7 +3,7 @@ use Rattle.wq_calls.proofs.Common.{◌≡◌, ℕ, ◌==◌, Bool, true, false, 
 use Rattle.wq_calls.proofs.Common.{arith, length-append, append-nil, Event, Hold, Busy, Push, Back, Answer, filter_map-append, accepted, accepted_by}
 use Rattle.wq_calls.proofs.Common.{begun, ended, IsRunning, is_close, IsClosed, IsShut, count_by, sum_by-append, IsLegal, owner_seat, seat_of, own}
 use Rattle.wq_calls.proofs.Common.{Grows, own-append, runs_some, runs_from_running, rests_from_running, Known, Sees, Answers, open_from_closed}
-use Rattle.wq_calls.proofs.Common.{shut_from_IsShut, IsShut_from_shut, open_from_shut}
+use Rattle.wq_calls.proofs.Common.{shut_from_IsShut, IsShut_from_shut, open_from_shut, nil_from_length}
 use Rattle.std.specs.List.{cons_option}
 use Rattle.wq_words.specs.declared.event.Why.TheVariants as why
 use Rattle.wq_words.specs.declared.answer.Answer.TheVariants.{Queued, Pending, Closed, Draining, Contended}
@@ -20,7 +20,6 @@ use Rattle.wq_calls.proofs.Owned.{running_quiet}
 use Rattle.wq_calls.proofs.Phases.{is_turn, closed_quiet, shut_still}
 use Rattle.wq_words.proofs.Closed.{closed_from_open, shut_from_open}
 use Rattle.wq_calls.proofs.Final.{final}
-use Rattle.wq_calls.proofs.Rows.{none_counted}
 
 -- nothing runs where nothing ran before and the owner neither began nor ended
 pub quiet_idle : (xs : List Event) (n : ℕ) (old new : Known) → old.number ≡ owner_seat → Sees xs n old new → begun xs ≡ [] → ended xs ≡ []
@@ -72,7 +71,7 @@ own_none s (e ∷ es) none = let both = none_first (accepted_by e) (accepted es)
 
 pub none_more : (h es : List Event) → accepted (h ++ es) ≡ accepted h → accepted es ≡ []
 none_more h es same =
-    none_counted (accepted es) (omega (arith, ap length (sym (filter_map-append accepted_by h es) ∙ same), length-append (accepted h) (accepted es)))
+    nil_from_length (accepted es) (omega (arith, ap length (sym (filter_map-append accepted_by h es) ∙ same), length-append (accepted h) (accepted es)))
 
 pub own_still : (s : ℕ) (h es : List Event) → accepted es ≡ [] → accepted (own s (h ++ es)) ≡ accepted (own s h)
 own_still s h es none =

@@ -1,5 +1,5 @@
 -- Rows that the links spell.
-use Rattle.wq_calls.proofs.Common.{◌≡◌, ◌≢◌, ℕ, ◌+◌, ◌<◌, ◌≤◌, Bool, cond, List, [], ◌∷◌, ◌++◌, length, sym, refl, ap, ◌∙◌, subst, arith, eqb, eq-eqb}
+use Rattle.wq_calls.proofs.Common.{◌≡◌, ◌≢◌, ℕ, ◌+◌, ◌<◌, ◌≤◌, Bool, cond, List, [], ◌∷◌, ◌++◌, sym, ap, ◌∙◌, subst, arith, eqb, eq-eqb}
 use Rattle.wq_calls.proofs.Common.{times, times-cons, times-first, Row, link_in, LinksOn, IsRowOf}
 
 -- where no link of the row has changed
@@ -31,7 +31,3 @@ on_hung ws ws' k last (i ∷ is) j last' js once same hung on behind =
       on_hung ws ws' i last is j last' js (omega (arith, once, times-cons last k (i ∷ is)))
           (λ a ne in'. same a ne (omega (arith, in', times-cons a k (i ∷ is)))) hung on.1 behind,
     )
-
-pub none_counted : (xs : List ℕ) → length xs ≡ 0 → xs ≡ []
-none_counted [] none = refl
-none_counted (x ∷ xs) none = absurd (omega arith)

@@ -72,10 +72,6 @@ sees_on xs ys n m k s t u sum a b = sees_after xs ys n m k s t u sum a.same a.gr
 pub sees_held : (k n : ℕ) (s t : Known) → Sees [] n s t → Holds s.seen s.number k → Holds t.seen t.number k
 sees_held k n s t sees have = subst (λ (c : ℕ). Holds t.seen c k) (sym sees.same.number_is) (grows_held s.number k n s.seen t.seen sees.grows have)
 
-and_false : (a : Bool) → (a && false) ≡ false
-and_false true = refl
-and_false false = refl
-
 -- who began to hold holds
 pub sees_hold : (k n : ℕ) (s t : Known) → Sees (Hold s.number k ∷ []) n s t → Holds t.seen t.number k
 sees_hold k n s t sees =

@@ -1,14 +1,10 @@
 -- Seats that made steps, and what they know then of what was brought.
-use Rattle.wq_calls.proofs.Common.{◌≡◌, ℕ, ◌<◌, [], ◌∷◌, refl, sym, ap, subst, TableId, plain_view, ValueStanding, standing_of, Learns}
+use Rattle.wq_calls.proofs.Common.{◌≡◌, ℕ, ◌<◌, [], sym, ap, subst, TableId, plain_view, ValueStanding, standing_of, Learns}
 use Rattle.wq_calls.proofs.Common.{learns_more, OwnerSeat, owning, owner_view, KnownWith, Learnt, owner_with}
 use Rattle.wq_calls.proofs.Common.{AreKnown}
-use Rattle.wq_table.specs.Slots.{ValueView}
 use Rattle.wq_table.proofs.Beside.{alone_follow}
 use Rattle.wq_table.proofs.Learns.{learns_many}
-
-pub none_plain : {V : Type 0} (ts : ValueView V) → plain_view ts ≡ [] → ts ≡ []
-none_plain [] none = refl
-none_plain (t ∷ ts) none = absurd (cc)
+use Rattle.wq_table.proofs.SlotTold.{none_plain}
 
 module _ {V : Type 0} where
   pub learns_alone : (a b : ValueStanding V) → Learns 0 a b → a.others ≡ [] → b.others ≡ []

@@ -9,7 +9,8 @@ use Rattle.wq_live.specs.declared.owner.Owner.TheInside as owner
 use Rattle.wq_live.specs.Alone.{SendsAlone, OwnsAlone}
 use Rattle.wq_calls.proofs.Meeting.{met_plain, meet_executes, meet_owner_sees}
 use Rattle.wq_calls.proofs.Sends.{meet_sends, meet_sees}
-use Rattle.wq_calls.proofs.ValueSeats.{learns_alone, learns_slots, none_plain}
+use Rattle.wq_calls.proofs.ValueSeats.{learns_alone, learns_slots}
+use Rattle.wq_table.proofs.SlotTold.{none_plain}
 
 module _ {V : Type 0} (k : ℕ) (a b : ValueStanding V) (none : a.queue.slots ≡ 0) where
   -- where there are no slots the hand stays

@@ -124,12 +124,12 @@ module _ {V : Type 0} where
   by_either zero p said step c some_slot = by_bare p said step c
   by_either (suc n) p said step c some_slot = some_slot (omega arith)
 
+  pub none_plain : (x : ValueView V) → plain_view x ≡ [] → x ≡ []
+  none_plain [] e = refl
+  none_plain (t ∷ ts) e = absurd cc
+
   rest_some : (v w : ValueView V) → (plain_view (rest_values w) ≢ [] → plain_view (rest_values v) ≢ []) → rest_values w ≢ [] → rest_values v ≢ []
   rest_some v w keep more none = keep (λ e. more (none_plain (rest_values w) e)) (ap plain_view none)
-    where
-      none_plain : (x : ValueView V) → plain_view x ≡ [] → x ≡ []
-      none_plain [] e = refl
-      none_plain (t ∷ ts) e = absurd cc
 
   -- the chair is as its invariant has it, where its seat has another view of these parts
   pub sits_with : (s t : Inside V) (p : Part) (ps : View) → ValueSits s → t.words ≡ s.words → t.spare ≡ s.spare → t.layout ≡ s.layout

@@ -1,10 +1,10 @@
 -- What a worker that got ready answers, that nothing begins by a rest, and what stays while others alone add events.
 use Rattle.wq_worker.proofs.Common.{◌≡◌, ℕ, Bool, true, false, List, [], slice_get, Option, Some, None, MatchOption, refl, sym, ap, ◌∙◌, begun, IsRunning}
-use Rattle.wq_worker.proofs.Common.{Event, Grows, owner_seat, Known, Sees, next_of, taking}
+use Rattle.wq_worker.proofs.Common.{Grows, owner_seat, Known, Sees, next_of, taking}
 use Rattle.wq_worker.proofs.Common.{NothingWaits, WorkerState, Moves, rest_events, IsReady, IsUnready}
 use Rattle.wq_worker.specs.Resting.{HasNoneLeft, LeavesWork, nothing}
 use Rattle.wq_calls.proofs.OwnerStays.{still_owned}
-use Rattle.wq_worker.proofs.Owned.{owner_grows, quiet_none, quiet_stays}
+use Rattle.wq_calls.proofs.Owned.{idle_still}
 
 pub ready_told : {W : Type 0} (a b : WorkerState W) (r : Option ℕ) → r ≡ next_of b.seen → (r ≡ None → NothingWaits b.seen) → ¬ IsRunning b.seen
     → Moves (taking a.seen) 0 a b → LeavesWork a b → MatchOption r (IsUnready a b) (λ k. IsReady a k b)
@@ -14,9 +14,6 @@ ready_told a b (Some k) next waits idle moves left = record { idle = idle; moves
 pub begun_rest : (rests : Bool) → begun (rest_events rests) ≡ []
 begun_rest true = refl
 begun_rest false = refl
-
-pub idle_still : (n : ℕ) (v w : List Event) → Grows owner_seat [] n v w → ¬ IsRunning v → ¬ IsRunning w
-idle_still n v w g idle = let s = quiet_stays [] v w quiet_none (owner_grows [] n v w g) in rw (s.begun_same, s.ended_same) idle
 
 pub none_left_still : (n : ℕ) (old new : Known) → old.number ≡ owner_seat → Sees [] n old new → Grows owner_seat [] n old.seen new.seen
     → HasNoneLeft old.seen → HasNoneLeft new.seen

@@ -4,7 +4,8 @@ use Rattle.wq_worker.proofs.State.{fit_both}
 use Rattle.wq_worker.proofs.Step.{state_of, moves_by}
 use Rattle.wq_worker.proofs.Pair.{by_owner}
 use Rattle.wq_worker.proofs.Phase.{open_still, unclosed_still, phase_grown}
-use Rattle.wq_worker.proofs.Resting.{idle_still, none_left_still}
+use Rattle.wq_calls.proofs.Owned.{idle_still}
+use Rattle.wq_worker.proofs.Resting.{none_left_still}
 use Rattle.wq_worker.proofs.worker.Worker.meet.Goals as goal
 
 pub invariant_of-self : goal.invariant_of-self
