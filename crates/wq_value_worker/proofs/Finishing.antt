@@ -1,7 +1,7 @@
 -- The pairs that an execution asked for are dealt with, and where all of them are it ends.
 use Rattle.wq_value_worker.proofs.Common.{◌≡◌, ℕ, ◌<◌, Bool, true, false, cond, ◌==◌, if◌then◌else◌, Some, List, [], ◌∷◌, ◌++◌, length, inr, refl, sym, ap}
-use Rattle.wq_value_worker.proofs.Common.{◌∙◌, subst, arith, or_parts, append-nil, Layout, Event, End, accepted, shut, running, IsRunning, owner_seat}
-use Rattle.wq_value_worker.proofs.Common.{seat_of, own, is_ours, IsContended, KnownValuePair, Adds, contended_of, StaysOr, Both, QueuesRest, finished}
+use Rattle.wq_value_worker.proofs.Common.{◌∙◌, subst, arith, append-nil, Layout, Event, End, accepted, shut, running, IsRunning, owner_seat}
+use Rattle.wq_value_worker.proofs.Common.{own, IsContended, KnownValuePair, Adds, contended_of, StaysOr, Both, QueuesRest, finished}
 use Rattle.wq_value_worker.proofs.Common.{contended, GivesBack, MayLeave, numbers_in, KeepsHanded, AreValueParts, EndsBy, OwesBy, DealsOut, queueing_seat}
 use Rattle.wq_value_worker.proofs.Common.{brought_in}
 use Rattle.std.proofs.lemmas.List.{map-append}
@@ -16,11 +16,7 @@ use Rattle.wq_worker.proofs.Follow.{advance_stays, advance_layout, advance_numbe
 use Rattle.wq_value_worker.proofs.Settling.{kept_on, DealtSofar, dealt_stays, seat_still}
 use Rattle.wq_worker.proofs.Step.{advance_owes, advance_ends}
 use Rattle.wq_value_worker.proofs.ValueState.{value_state_of, keeps_or, value_fit}
-
--- an event of neither seat is not of the one that queues
-ours_in : (s : ℕ) (b : Bool) (e : Event) → is_ours s e ≡ false → (seat_of e == (if b then owner_seat else s)) ≡ false
-ours_in s true e none = (or_parts (seat_of e == s) (seat_of e == owner_seat) none).1
-ours_in s false e none = (or_parts (seat_of e == s) (seat_of e == owner_seat) none).0
+use Rattle.wq_words.proofs.Seen.{queueing_ours}
 
 end_accepts : (k : ℕ) (b : Bool) → accepted (cond b (End k ∷ []) []) ≡ []
 end_accepts k true = refl
@@ -32,7 +28,7 @@ brought_ended : {V : Type 0} (s k : ℕ) (b : Bool) (old new : KnownValuePair V)
 brought_ended s k b old new adds keeps =
     let c : ℕ = if b then owner_seat else s in
     own_still c (own c (End k ∷ [])) 0 old.known.seen new.known.seen old.brought new.brought (end_accepts k (owner_seat == c))
-    (seat_grown s c (End k ∷ []) 0 old.known.seen new.known.seen (ours_in s b) adds) keeps.learnt.more keeps.learnt.was_whole
+    (seat_grown s c (End k ∷ []) 0 old.known.seen new.known.seen (queueing_ours s b) adds) keeps.learnt.more keeps.learnt.was_whole
 
 module _ {V W : Type 0} (log given : W → List (ℕ × V)) (takes : W → ℕ → V → W → Type 0) (tries : ℕ) where
   -- the first of those that are left was contended

@@ -1,6 +1,6 @@
 -- What a step of a worker with values deals with, where it begins an execution and then queues what that asks for.
 use Rattle.wq_value_worker.proofs.Common.{◌≡◌, ℕ, Bool, true, false, cond, ◌==◌, if◌then◌else◌, List, [], ◌∷◌, ◌++◌, length, Option, Some, None, refl, sym}
-use Rattle.wq_value_worker.proofs.Common.{ap, ◌∙◌, subst, or_parts, Layout, Event, Take, Begin, accepted, begun, shut, owner_seat, seat_of, own, is_ours}
+use Rattle.wq_value_worker.proofs.Common.{ap, ◌∙◌, subst, Layout, Event, Take, Begin, accepted, begun, shut, owner_seat, own}
 use Rattle.wq_value_worker.proofs.Common.{runs_some, next_of, Learnt, Ran, Nothing, Adds, taking, MayLeave, ValueWorkerState, owner_in}
 use Rattle.wq_value_worker.proofs.Common.{DealsOut, BeginsValue}
 use Rattle.wq_words.proofs.Ranks.{slice_get-prefix}
@@ -12,6 +12,7 @@ use Rattle.wq_value_worker.specs.Deals.{Deals, queueing_seat, AsksFor, item, oth
 use Rattle.wq_worker.proofs.Seats.{adds_on}
 use Rattle.wq_worker.proofs.Owned.{seat_grown}
 use Rattle.wq_worker.proofs.Step.{shut_still}
+use Rattle.wq_words.proofs.Seen.{queueing_ours}
 
 -- no seat queues by a take and a begin
 module _ (k : ℕ) where
@@ -27,11 +28,6 @@ module _ (k : ℕ) where
   taking_accepts c None false = take_accepts (owner_seat == c)
   taking_accepts c None true = begin_accepts (owner_seat == c)
   taking_accepts c (Some j) is_shut = begin_accepts (owner_seat == c)
-
--- the seat that queues is one of the two
-queueing_ours : (s : ℕ) (is_shut : Bool) (e : Event) → is_ours s e ≡ false → (seat_of e == (if is_shut then owner_seat else s)) ≡ false
-queueing_ours s true e none = (or_parts (seat_of e == s) (seat_of e == owner_seat) none).1
-queueing_ours s false e none = (or_parts (seat_of e == s) (seat_of e == owner_seat) none).0
 
 module _ {V W : Type 0} (given : W → List (ℕ × V)) (may : W → ℕ → V → List (ℕ × V) → W → Type 0) (takes : W → ℕ → V → W → Type 0) where
   -- where something was found

@@ -2,9 +2,9 @@
 use Rattle.wq_words.proofs.Common.{◌≡◌, ℕ, ◌≢◌, Bool, true, false, cond, not, eqb, ◌==◌, List, [], ◌∷◌, ◌++◌, length, Option, Some, None, sym, refl, ap, ◌∙◌}
 use Rattle.wq_words.proofs.Common.{arith, append_assoc, eq-eqb, ne_eqb, count_by, filter, filter_map, ◌||◌, append-nil, sum_by-cons, filter-append}
 use Rattle.wq_words.proofs.Common.{IsPrefix, Event, Hold, Push, Back, Close, Begin, End, Holds, starts_hold, stops_hold, is_close, IsClosed, begun_by}
-use Rattle.wq_words.proofs.Common.{ended_by, begun, ended, IsRunning, owner_seat, seat_of, own, others, is_ours, Grows}
+use Rattle.wq_words.proofs.Common.{ended_by, begun, ended, IsRunning, owner_seat, seat_of, own, others, is_ours, Grows, if◌then◌else◌}
 use Rattle.wq_words.proofs.Prefixes.{left_nil, nothing_more}
-use Rattle.std.proofs.lemmas.Bool.{and_right}
+use Rattle.std.proofs.lemmas.Bool.{and_right, or_parts}
 
 module _ {A : Type 0} (p q : A → Bool) (only : (x : A) → q x ≡ false → p x ≡ false) where
   keep_step : (b : Bool) (x : A) (ys xs : List A) → (b ≡ false → p x ≡ false) → filter p ys ≡ filter p xs
@@ -47,6 +47,11 @@ cond_nil false x xs is = is
 -- no event of the seat stands behind the first, where there is none at all
 pub own_rest : (c : ℕ) (e : Event) (es : List Event) → own c (e ∷ es) ≡ [] → own c es ≡ []
 own_rest c e es is = cond_nil (eqb (seat_of e) c) e (own c es) is
+
+-- the seat by which a worker queues, the owner's where the queue is shut, is one of its two
+pub queueing_ours : (s : ℕ) (is_shut : Bool) (e : Event) → is_ours s e ≡ false → (seat_of e == (if is_shut then owner_seat else s)) ≡ false
+queueing_ours s true e none = (or_parts (seat_of e == s) (seat_of e == owner_seat) none).1
+queueing_ours s false e none = (or_parts (seat_of e == s) (seat_of e == owner_seat) none).0
 
 -- a sender's and the owner's seat, where neither made an event
 pub none_of : (s : ℕ) (es : List Event) → filter (is_ours s) es ≡ [] → (own s es ≡ []) × (own owner_seat es ≡ [])
