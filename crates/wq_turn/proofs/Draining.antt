@@ -6,15 +6,15 @@ use Rattle.wq_words.proofs.Legal.{legal_next}
 use Rattle.wq_words.proofs.OtherSeats.{surrounds}
 use Rattle.wq_words.proofs.Appended.{count_by-append}
 use Rattle.wq_worker.specs.Rows.{Closes, was_closed, closes}
-use Rattle.wq_worker.specs.Step.{OwesBy, owes as owes_one}
-use Rattle.wq_turn.proofs.Common.{◌≡◌, ℕ, Bool, true, false, List, [], ◌∷◌, length, ap, ◌∙◌, arith, Event, Close, begun, ended, IsClosed, IsShut, IsRunning}
-use Rattle.wq_turn.proofs.Common.{IsComplete, closed_shuts, shut_from_IsShut, WorkerState, Moves, owner_of_both, Pauses, limited, owes, owed_before, WorksOn}
+use Rattle.wq_turn.proofs.Common.{◌≡◌, ℕ, Bool, true, false, List, [], ◌∷◌, length, ap, ◌∙◌, arith, Event, Close, begun, ended, IsClosed, IsRunning}
+use Rattle.wq_turn.proofs.Common.{IsComplete, closed_shuts, WorkerState, Moves, owner_of_both, Pauses, limited, owes, owed_before, WorksOn}
 use Rattle.wq_turn.proofs.Common.{◌<◌, ◌++◌, sym, subst, append_assoc, Rest, IsLegal, Finishes, rested, completed}
 use Rattle.wq_turn.specs.Drained.{IsDrained}
 use Rattle.wq_turn.specs.Steps.{EndsJust}
 use Rattle.wq_turn.specs.Owed.{IsOwed}
 use Rattle.wq_turn.proofs.Moved.{steps_keep, works_keep}
 use Rattle.wq_turn.proofs.Refused.{owner_new}
+use Rattle.wq_worker.proofs.Draining.{owes_open}
 
 owes_kept : (o : Bool) (v w : List Event) → length (begun w) ≡ length (begun v) → length (ended w) ≡ length (ended v) → IsOwed o v → IsOwed o w
 owes_kept true v w b e runs = omega (arith, runs, b, e)
@@ -52,14 +52,10 @@ module _ {W : Type 0} where
       may.2.0 (closed_shuts (a.seen ++ t.front) (omega (arith, closed, count_by-append is_close a.seen t.front)))
 
   module _ (may : W → ℕ → List ℕ → W → Type 0) (gives : W → W → Type 0) where
-    -- a queue that is shut owes nothing
-    owes_open : (k : ℕ) (a b : WorkerState W) → OwesBy may gives a k b → ¬ IsShut a.seen
-    owes_open k a b (owes_one f qs j others es fs st split small left opens told moved runs) = λ shut. let now = shut_from_IsShut a.seen shut in absurd (cc)
-
     pauses_idle : (limit : ℕ) (a c : WorkerState W) → Pauses may gives limit a c → IsClosed a.seen → ¬ IsRunning a.seen → ¬ IsRunning c.seen
     pauses_idle limit a c (limited k steps just rests next) closed idle = rests
     pauses_idle limit a c (owes n k b low steps step) closed idle =
-        absurd (owes_open k b c step (closed_shuts b.seen (steps_keep (λ w. IsClosed w.seen) moved_closed may gives n a b steps closed)))
+        absurd (owes_open may gives k b c step (closed_shuts b.seen (steps_keep (λ w. IsClosed w.seen) moved_closed may gives n a b steps closed)))
     pauses_idle limit a c (owed_before is_none runs same) closed idle = absurd (idle runs)
 
     pub works_closed : (limit : ℕ) (done : Bool) (a c : WorkerState W) → WorksOn may gives limit done a c → IsClosed a.seen → IsClosed c.seen
@@ -79,7 +75,7 @@ module _ {W : Type 0} where
     pauses_just : (limit : ℕ) (a c : WorkerState W) → Pauses may gives limit a c → IsClosed a.seen → ¬ IsRunning a.seen → EndsJust limit a.seen c.seen
     pauses_just limit a c (limited k steps just rests next) closed idle = just
     pauses_just limit a c (owes n k b low steps step) closed idle =
-        absurd (owes_open k b c step (closed_shuts b.seen (steps_keep (λ w. IsClosed w.seen) moved_closed may gives n a b steps closed)))
+        absurd (owes_open may gives k b c step (closed_shuts b.seen (steps_keep (λ w. IsClosed w.seen) moved_closed may gives n a b steps closed)))
     pauses_just limit a c (owed_before is_none runs same) closed idle = absurd (idle runs)
 
     -- where something is left just as many executions ended as the limit says

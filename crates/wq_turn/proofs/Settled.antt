@@ -1,6 +1,6 @@
 -- What a worker that settles, executes or works on leaves.
 use Rattle.wq_words.proofs.Running.{runs_from_running as runs_some}
-use Rattle.wq_worker.specs.Step.{EndsBy, ends, owes as owe, RunsBy}
+use Rattle.wq_worker.specs.Step.{owes as owe, RunsBy}
 use Rattle.wq_turn.proofs.Common.{◌≡◌, ℕ, ◌+◌, ◌<◌, ◌≤◌, Bool, true, false, List, [], Some, None, Option, MatchOption, refl, ap, ◌∙◌, subst, add-zero, arith}
 use Rattle.wq_turn.proofs.Common.{Layout, IsShut, IsRunning, closed, IsLegal, IsClosed_from_closed, MayNotRest, Ran, Item, Barrier, Stop, Nothing, Owing}
 use Rattle.wq_turn.proofs.Common.{IsExecution, ended_by_answer, WorkerState, Moves, rest_events, IsReady, IsUnready, owed, nothing, HasNoneLeft, LeavesWork}
@@ -9,6 +9,7 @@ use Rattle.wq_turn.proofs.Common.{rested, completed, IsDue, SettlesOne, RunsOne,
 use Rattle.wq_turn.specs.declared.runner.Progress.{Progress}
 use Rattle.wq_turn.proofs.Refused.{refused_waits, none_left_complete}
 use Rattle.wq_turn.proofs.Steps.{steps_on, steps_ended, finishes_on}
+use Rattle.wq_worker.proofs.Rows.{ends_idle}
 
 module _ {W : Type 0} (may : W → ℕ → List ℕ → W → Type 0) (gives : W → W → Type 0) where
   one_ended : (r : Ran) → IsExecution r → ended_by_answer r ≡ 1
@@ -18,13 +19,10 @@ module _ {W : Type 0} (may : W → ℕ → List ℕ → W → Type 0) (gives : W
   one_ended Nothing is = absurd is
   one_ended (Owing k) is = absurd is
 
-  ends_idle : (k : ℕ) (a b : WorkerState W) → EndsBy may gives a k b → ¬ IsRunning b.seen
-  ends_idle k a b (ends f es fs starts told moved idle) = idle
-
   pub executed : (r : Ran) (a b : WorkerState W) → IsExecution r → RunsBy may gives r a b → RunsOne may gives Ended a b
-  executed (Item k) a b is t = (Item k, is, t, ends_idle t.0 a b t.2)
-  executed (Barrier k) a b is t = (Barrier k, is, t, ends_idle t.0 a b t.2)
-  executed Stop a b is t = (Stop, is, t, ends_idle t.0 a b t.2)
+  executed (Item k) a b is t = (Item k, is, t, ends_idle may gives t.0 a b t.2)
+  executed (Barrier k) a b is t = (Barrier k, is, t, ends_idle may gives t.0 a b t.2)
+  executed Stop a b is t = (Stop, is, t, ends_idle may gives t.0 a b t.2)
   executed Nothing a b is t = absurd is
   executed (Owing k) a b is t = absurd is
 

@@ -52,7 +52,8 @@ nothing_left layout s n es v w a q legal shut idle (at_all now none) =
     let same = quiet_stays es v w q (owner_of_both s es n v w a) in ended_at layout v a.new w a.is legal idle same.begun_same none
 
 module _ {W : Type 0} (may : W → ℕ → List ℕ → W → Type 0) (gives : W → W → Type 0) where
-  owes_open : (k : ℕ) (a b : WorkerState W) → OwesBy may gives a k b → ¬ IsShut a.seen
+  -- a queue that is shut owes nothing
+  pub owes_open : (k : ℕ) (a b : WorkerState W) → OwesBy may gives a k b → ¬ IsShut a.seen
   owes_open k a b (owes f qs j more es fs st split small left opens told moved runs) = λ shut. let now = shut_from_IsShut a.seen shut in absurd (cc)
 
   -- a queue that is shut and has something left goes on
