@@ -1,9 +1,9 @@
--- The opening is sound, and each step that is made keeps it so.
+-- The opening is sound, and each step that is made keeps it so. A step leaves the layout.
 use Rattle.wq_core.proofs.Common.{HasSeenOpen, TakesPushes, ◌≡◌, ◌≢◌, ℕ, ◌==◌, Bool, true, false, if◌then◌else◌, List, [], ◌∷◌}
 use Rattle.wq_core.proofs.Common.{Option, None, Some, unwrap_or, refl, ap, eqb-true, eqb-false, length-replicate}
 use Rattle.wq_core.proofs.Common.{Layout, number_count, IsRunning, legal_nil, Private, Step, Look, Link, Check}
 use Rattle.wq_core.proofs.Common.{Walk, Turn, busy_word, word_count, link_word, link_to, word_at, Machine, opening, nothing_seen, head, link, item_word}
-use Rattle.wq_core.proofs.Common.{private, seen_word, after_walk, after_begin, after, IsMade, IsSound}
+use Rattle.wq_core.proofs.Common.{private, seen_word, after_walk, after_begin, after_end, after, running, IsMade, IsSound}
 use Rattle.wq_core.specs.declared.step.Seat.{Seat}
 use Rattle.wq_core.specs.declared.step.Seat.TheVariants.{Sender, Owner}
 use Rattle.wq_core.specs.declared.step.Step.TheVariants.{Hold, Push, Back, Take, Close, Drain, Resume, Begin, End, Chain, Rest}
@@ -78,3 +78,30 @@ sound_opening layout = record {
   linked = λ s k is. absurd (cc (is, ap (λ (p : Private). p.linked) (all_alike layout.senders s nothing_seen)));
   seen = λ s why is. none_seen [] why (rw (all_alike layout.senders s nothing_seen) at is);
 }
+
+-- the layout travels with the machine
+pub layout_after : (m : Machine) (seat : Seat) (step : Step) → (after m seat step).layout ≡ m.layout
+layout_after m (Sender s) (Hold k) = either (item_word m k == 0) (λ x. x.layout ≡ m.layout) _ _ (λ e. refl) (λ e. refl)
+layout_after m (Sender s) Look = refl
+layout_after m (Sender s) (Link k) = refl
+layout_after m (Sender s) (Push k) = either (head m == seen_word m s) (λ x. x.layout ≡ m.layout) _ _ (λ e. refl) (λ e. refl)
+layout_after m (Sender s) (Back k why) = refl
+layout_after m (Sender s) (Check k) = refl
+layout_after m Owner Walk = walk m.cursor
+  where
+    walk : (c : Option ℕ) → (after_walk m c).layout ≡ m.layout
+    walk None = refl
+    walk (Some k) = either (link m k == 0) (λ x. x.layout ≡ m.layout) _ _ (λ e. refl) (λ e. refl)
+layout_after m Owner Begin = begin m.batch
+  where
+    begin : (b : List ℕ) → (after_begin m b).layout ≡ m.layout
+    begin [] = refl
+    begin (k ∷ ks) = refl
+layout_after m Owner End = end (running m.history)
+  where
+    end : (r : Option ℕ) → (after_end m r).layout ≡ m.layout
+    end None = refl
+    end (Some k) = refl
+layout_after m Owner (Chain k) = either (item_word m k == 0) (λ x. x.layout ≡ m.layout) _ _ (λ e. refl) (λ e. refl)
+layout_after m Owner Rest = either (head m == busy_word) (λ x. x.layout ≡ m.layout) _ _ (λ e. refl) (λ e. refl)
+layout_after m _ _ = refl

@@ -1,13 +1,11 @@
 -- Every schedule keeps what is sound.
-use Rattle.wq_machine.proofs.Common.{◌≡◌, ℕ, ◌+◌, ◌<◌, ◌==◌, List, [], ◌∷◌, ◌++◌}
-use Rattle.wq_machine.proofs.Common.{length, get_or, take, Option, None, Some, refl, ap, ◌∙◌}
-use Rattle.wq_machine.proofs.Common.{take_more, slice_get-get_or, Layout, running, IsLegal, Step, Look, Link, Check}
-use Rattle.wq_machine.proofs.Common.{Walk, busy_word, Machine, opening, head, link, item_word}
-use Rattle.wq_machine.proofs.Common.{seen_word, after_walk, after_begin, after_end, after, IsMade, IsRefused, Leads, Leaves, StopsAt, IsSound}
+use Rattle.wq_machine.proofs.Common.{◌≡◌, ℕ, ◌+◌, ◌<◌, List, [], ◌∷◌, ◌++◌}
+use Rattle.wq_machine.proofs.Common.{length, get_or, take, ap, ◌∙◌}
+use Rattle.wq_machine.proofs.Common.{take_more, slice_get-get_or, Layout, IsLegal, Step}
+use Rattle.wq_machine.proofs.Common.{Machine, opening}
+use Rattle.wq_machine.proofs.Common.{after, IsMade, IsRefused, Leads, Leaves, StopsAt, IsSound}
 use Rattle.wq_core.specs.declared.step.Seat.{Seat}
-use Rattle.wq_core.specs.declared.step.Seat.TheVariants.{Sender, Owner}
-use Rattle.wq_core.specs.declared.step.Step.TheVariants.{Hold, Push, Back, Begin, End, Chain, Rest}
-use Rattle.wq_core.proofs.Sound.{either, sound_after, sound_opening}
+use Rattle.wq_core.proofs.Sound.{sound_after, sound_opening, layout_after}
 use Rattle.wq_machine.specs.declared.refusal.StepError.{StepError}
 
 pub sound_leads : (turns : List (Seat × Step)) (old new : Machine) → IsSound old → Leads old turns new → IsSound new
@@ -18,33 +16,6 @@ sound_leads (turn ∷ turns) old new o leads =
 -- whatever the schedule, the machine stays sound
 pub sound_leaves : (layout : Layout) (turns : List (Seat × Step)) (m : Machine) → Leaves layout turns m → IsSound m
 sound_leaves layout turns m leaves = sound_leads turns (opening layout) m (sound_opening layout) leaves
-
--- the layout travels with the machine
-layout_after : (m : Machine) (seat : Seat) (step : Step) → (after m seat step).layout ≡ m.layout
-layout_after m (Sender s) (Hold k) = either (item_word m k == 0) (λ x. x.layout ≡ m.layout) _ _ (λ e. refl) (λ e. refl)
-layout_after m (Sender s) Look = refl
-layout_after m (Sender s) (Link k) = refl
-layout_after m (Sender s) (Push k) = either (head m == seen_word m s) (λ x. x.layout ≡ m.layout) _ _ (λ e. refl) (λ e. refl)
-layout_after m (Sender s) (Back k why) = refl
-layout_after m (Sender s) (Check k) = refl
-layout_after m Owner Walk = walk m.cursor
-  where
-    walk : (c : Option ℕ) → (after_walk m c).layout ≡ m.layout
-    walk None = refl
-    walk (Some k) = either (link m k == 0) (λ x. x.layout ≡ m.layout) _ _ (λ e. refl) (λ e. refl)
-layout_after m Owner Begin = begin m.batch
-  where
-    begin : (b : List ℕ) → (after_begin m b).layout ≡ m.layout
-    begin [] = refl
-    begin (k ∷ ks) = refl
-layout_after m Owner End = end (running m.history)
-  where
-    end : (r : Option ℕ) → (after_end m r).layout ≡ m.layout
-    end None = refl
-    end (Some k) = refl
-layout_after m Owner (Chain k) = either (item_word m k == 0) (λ x. x.layout ≡ m.layout) _ _ (λ e. refl) (λ e. refl)
-layout_after m Owner Rest = either (head m == busy_word) (λ x. x.layout ≡ m.layout) _ _ (λ e. refl) (λ e. refl)
-layout_after m _ _ = refl
 
 layout_leads : (turns : List (Seat × Step)) (old new : Machine) → Leads old turns new → new.layout ≡ old.layout
 layout_leads [] old new leads = ap (λ (m : Machine). m.layout) leads

@@ -1,9 +1,8 @@
 -- The output of a schedule, a turn further, and that it is one.
 use Rattle.wq_meaning.proofs.Common.{◌≡◌, ◌≢◌, inl, inr, ℕ, ◌+◌, ◌<◌, List, [], ◌∷◌, ◌++◌, length, drop, get_or, refl, sym, ap, ◌∙◌, subst, append_assoc}
 use Rattle.wq_meaning.proofs.Common.{drop-cons, add-one, append-nil, Layout, Turn, Gives, AllGive, GivesBehind, IsScheduleOutput, HasOneOutput, ending}
-use Rattle.std.proofs.Common.{rules}
 use Rattle.std.specs.Prelude.{codes}
-use Rattle.wq_core.specs.Machine.{Machine, opening, reply_to, IsEnabled, after}
+use Rattle.wq_core.specs.Machine.{Machine, opening, reply_to, IsEnabled}
 use Rattle.wq_core.specs.Made.{IsPlaced}
 use Rattle.wq_core.specs.declared.step.Seat.{Seat}
 use Rattle.wq_core.specs.declared.step.Step.{Step}
@@ -21,10 +20,6 @@ not_enabled m seat step refusal.NoSeat placed refused room = absurd (refused pla
 not_enabled m seat step refusal.NoItem placed refused room = absurd (refused.1 placed.1)
 not_enabled m seat step refusal.NotEnabled placed refused room = refused.1
 not_enabled m seat step refusal.Memory placed refused room = absurd (room refl)
-
--- a step leaves the layout
-pub same_layout : (m : Machine) (seat : Seat) (step : Step) → (after m seat step).layout ≡ m.layout
-same_layout m seat step = search rules
 
 -- whatever the turns that are left give, all turns give it behind what was written
 abbrev pub Continues : Layout → List Turn → Machine → List Turn → List ℕ → Type 0

@@ -1,10 +1,11 @@
 use Rattle.std.proofs.Common.{rules}
 use Rattle.wq_meaning.proofs.Common.{ap, ◌∙◌, inl, inr}
-use Rattle.wq_meaning.proofs.ScheduleLines.{not_enabled, same_layout}
+use Rattle.wq_core.proofs.Sound.{layout_after}
+use Rattle.wq_meaning.proofs.ScheduleLines.{not_enabled}
 use Rattle.wq_meaning.proofs.schedule_history.try_step.Goals as goal
 
 pub returns-in-Ok-clause-same : goal.returns-in-Ok-clause-same
-returns-in-Ok-clause-same c = ap (λ m. m.layout) c.in-Ok.ensures.after ∙ same_layout c.args.core.now c.args.seat c.args.step
+returns-in-Ok-clause-same c = ap (λ m. m.layout) c.in-Ok.ensures.after ∙ layout_after c.args.core.now c.args.seat c.args.step
 
 pub returns-in-Ok-clause-passes : goal.returns-in-Ok-clause-passes
 returns-in-Ok-clause-passes c = inl (c.in-Ok.ensures.made.1, c.in-Ok.ensures.after)
