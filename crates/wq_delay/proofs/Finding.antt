@@ -8,6 +8,7 @@ use Rattle.wq_delay.proofs.Rounds.{at_or}
 use Rattle.wq_delay.proofs.Standing.{later_same, later_some}
 use Rattle.wq_delay.proofs.Looking.{or_false, on_push, steps_left, steps_fewer}
 use Rattle.wq_delay.proofs.Fitting.{place_low, more_on_table}
+use mathlib.Core.Bool.{and-false}
 
 -- the slot of a later tick is the n-th after that of the tick t where its turn is n
 pub turn_slot : (t n due : ℕ) → t < due → turn_of t due ≡ n → due % 256 ≡ (t + 1 + n) % 256
@@ -210,11 +211,7 @@ module _ (places : List (Option Place)) (next previous : List ℕ) (t now n head
         before false at = let s : y ≢ head = grind (arith, nat_tests) in let u = y_rises s in let v = x_number in grind (arith, nat_tests)
 
     pub not_found : on_table x es ≡ false
-    not_found = l.which x q item_there.0 ∙ (ap (λ (z : Bool). nat_le q.due now && z) x_before ∙ and_false (nat_le q.due now))
-      where
-        and_false : (b : Bool) → (b && false) ≡ false
-        and_false true = refl
-        and_false false = refl
+    not_found = l.which x q item_there.0 ∙ (ap (λ (z : Bool). nat_le q.due now && z) x_before ∙ and-false (nat_le q.due now))
 
     other_which : (k : ℕ) (p : Place) → k ≢ x → place_in places k ≡ Some p
         → on_table k es ≡ (nat_le p.due now && is_passed t n (is_behind head y p (number y)) p)

@@ -6,6 +6,7 @@ use Rattle.wq_meaning.proofs.Common.{modify_answer}
 use Rattle.wq_words.specs.declared.answer.Armed.TheVariants as armed
 use Rattle.wq_words.specs.declared.answer.Modified.TheVariants as modified
 use Rattle.wq_words.proofs.Rest.{not_zero}
+use mathlib.Core.Bool.{or-true}
 
 yes : {A : Type 0} (b : Bool) (x y : A) → b ≡ true → (if b then x else y) ≡ x
 yes b x y is = ap (λ (c : Bool). if c then x else y) is
@@ -19,11 +20,7 @@ module _ (k delay : ℕ) (h : List Event) where
   now_at_once none = ap (λ (b : Bool). b || pending h k) (eq-eqb delay 0 none)
 
   pub now_pending : pending h k ≡ true → queues_now k delay h ≡ true
-  now_pending set = ap (λ (b : Bool). (delay == 0) || b) set ∙ either (delay == 0)
-    where
-      either : (b : Bool) → (b || true) ≡ true
-      either true = λ i. true
-      either false = λ i. true
+  now_pending set = ap (λ (b : Bool). (delay == 0) || b) set ∙ or-true (delay == 0)
 
   pub now_never : 0 < delay → pending h k ≡ false → queues_now k delay h ≡ false
   now_never some clear = ap (λ (b : Bool). b || pending h k) (not_zero delay some) ∙ clear

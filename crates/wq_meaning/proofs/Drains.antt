@@ -74,6 +74,11 @@ executions_shut w follows ends (suc n) h =
     let one : shut g ≡ shut h = execution_shut w follows h in
     row_shut (after_executions w follows ends n) ends h g (next h) one (executions_shut w follows ends n g ∙ one)
 
+-- a shut queue is not taken from
+pub no_take : (b : Bool) → (if (b && not true) then Take ∷ [] else []) ≡ []
+no_take true = refl
+no_take false = refl
+
 -- where a queue is shut and nothing waits, nothing is executed
 pub nothing_executed : (w : ℕ) (follows : List (ArrayVec ℕ)) (ends : ℕ → Bool) (limit : ℕ) (h : List Event) → shut h ≡ true → next h ≡ None
     → after_executions w follows ends limit h ≡ h
@@ -82,10 +87,6 @@ nothing_executed w follows ends (suc n) h is none =
     ap (go_on (after_executions w follows ends n) ends (after_execution w follows h)) none
     ∙ (ap (after_run w follows (h ++ take_events h)) none ∙ (ap (λ (x : List Event). h ++ x) untaken ∙ append-nil h))
   where
-    no_take : (b : Bool) → (if (b && not true) then Take ∷ [] else []) ≡ []
-    no_take true = refl
-    no_take false = refl
-
     untaken : take_events h ≡ []
     untaken = ap (λ (s : Bool). if (nat_le (taken h) (length (begun h)) && not s) then Take ∷ [] else []) is
         ∙ no_take (nat_le (taken h) (length (begun h)))

@@ -15,12 +15,8 @@ use Rattle.wq_recording.specs.HistoryReport.{history_rules}
 use Rattle.wq_recording.specs.Trace.{trace_grammar}
 use Rattle.wq_recording.specs.TraceReport.{trace_rules}
 use Rattle.wq_recording.proofs.OneCause.{one_event_cause, one_mark_cause, shown_next}
-use Rattle.wq_recording.proofs.Stages.{stays}
+use Rattle.wq_recording.proofs.Stages.{stays, passed}
 use Rattle.wq_recording.proofs.Verdicts.{AreFit}
-
-passed : {B : Type 0} (k : Kind) (b : Bool) (r : Result B Kind) (x : B) → (need k b >>= λ _. r) ≡ Ok x → r ≡ Ok x
-passed k true r x e = e
-passed k false r x e = cc
 
 -- only behind a whole header is anything asked for
 module _ {N A : Type 0} (g : Grammar N A) (s next : Stage) (a : A) where

@@ -23,10 +23,7 @@ use Rattle.wq_recording.specs.VerdictText.{verdict_of, SaysOf, Finds}
 use Rattle.wq_recording.proofs.LastLine.{last_long}
 use Rattle.wq_recording.proofs.Telling.{told_legal}
 use Rattle.wq_recording.proofs.LineParts.{parts_line, parts_bare, parts_front, whole_line, bare_line}
-
-flat_map-append : {X Y : Type 0} (f : X → List Y) (xs ys : List X) → flat_map f (xs ++ ys) ≡ flat_map f xs ++ flat_map f ys
-flat_map-append f [] ys = refl
-flat_map-append f (x ∷ xs) ys = ap (λ zs. f x ++ zs) (flat_map-append f xs ys) ∙ sym (append_assoc (f x) (flat_map f xs) (flat_map f ys))
+use Rattle.std.proofs.lemmas.Grind.{flat_map-append}
 
 module _ {A : Type 0} (inner : Lines A) where
   pub short_is : (s : Stage) (line : List ℕ) → length line ≤ 4096 → short_line inner s line ≡ inner s line

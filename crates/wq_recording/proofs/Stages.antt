@@ -11,7 +11,7 @@ use Rattle.wq_text.specs.Sound.{KeepsSound, SoundAt}
 use Rattle.wq_text.specs.Word.{words}
 use Rattle.std.specs.Prelude.{if◌then◌else◌}
 
-passed : {B : Type 0} (k : Kind) (b : Bool) (r : Result B Kind) (x : B) → (need k b >>= λ _. r) ≡ Ok x → r ≡ Ok x
+pub passed : {B : Type 0} (k : Kind) (b : Bool) (r : Result B Kind) (x : B) → (need k b >>= λ _. r) ≡ Ok x → r ≡ Ok x
 passed k true r x e = e
 passed k false r x e = cc
 

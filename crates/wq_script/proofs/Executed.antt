@@ -17,6 +17,7 @@ use Rattle.wq_words.proofs.ShutOwn.{shut_same}
 use Rattle.wq_script.proofs.Alone.{all_ours}
 use Rattle.wq_script.proofs.Queueings.{busy_events, push_events, not_pending, is_pending, last_own}
 use Rattle.wq_words.proofs.Closed.{shut_from_open, open_from_shut, shut_quiet}
+use Rattle.wq_meaning.proofs.Drains.{no_take}
 
 -- what the worker added, where it was quiet
 pub exact : (wide : Layout) (n : ℕ) (h v z xs : List Event) (m : ℕ) → Quiet wide n h z → Adds n xs m h v → IsPrefix v z
@@ -59,18 +60,13 @@ taken_few h = each (shut h)
 batch_length : (h : List Event) → length (batch h) ≡ taken h - length (begun h)
 batch_length h = length-drop (length (begun h)) (take (taken h) (accepted h)) ∙ omega (arith, length-take (taken h) (accepted h), taken_few h)
 
--- a shut queue is not taken from
-untaken : (x : Bool) → (if (x && not true) then Take ∷ [] else []) ≡ []
-untaken true = refl
-untaken false = refl
-
 -- a take comes where a script has one
 pub taking_is : (h : List Event) → taking h ≡ take_events h
 taking_is h = each (next_of h) (shut h) refl
   where
     each : (o : Option ℕ) (b : Bool) → next_of h ≡ o → taking_of o b ≡ (if (nat_le (taken h) (length (begun h)) && not b) then Take ∷ [] else [])
-    each None true is = sym (untaken (nat_le (taken h) (length (begun h))))
-    each (Some k) true is = sym (untaken (nat_le (taken h) (length (begun h))))
+    each None true is = sym (no_take (nat_le (taken h) (length (begun h))))
+    each (Some k) true is = sym (no_take (nat_le (taken h) (length (begun h))))
     each None false is =
         let none : length (batch h) ≡ 0 = empty (batch h) is in
         let le : nat_le (taken h) (length (begun h)) ≡ true = le-leb (taken h) (length (begun h)) (omega (arith, none, batch_length h)) in

@@ -5,14 +5,8 @@ use Rattle.wq_script.proofs.Common.{IsPrefix, QueueId, Layout, Event, IsLegal, o
 use Rattle.wq_script.proofs.Common.{Hears, IsAt, IsWider, Seated, worker_sender, worker_owner, prefix_on, DelayState, with_item, prefix_self, seat_of, Gathers, ap}
 use Rattle.wq_words.proofs.Seen.{own_between}
 use Rattle.wq_script.proofs.Alone.{IsSeat, settle}
-
-or_right : (a : Bool) → (a || true) ≡ true
-or_right true = refl
-or_right false = refl
-
-or_either : (a b : Bool) → (a || b) ≡ true → (a ≡ true) ⊎ (b ≡ true)
-or_either true b is = inl refl
-or_either false b is = inr is
+use mathlib.Core.Bool.{or-true}
+use Rattle.std.proofs.lemmas.Bool.{or_cases}
 
 -- a seat that did not act hears z: it made no event there
 pub still_none : (queue : QueueId) (layout : Layout) (c : ℕ) (h z : List Event) (k k' : Known) → IsPrefix h z → IsAt queue layout c h k → Hears z k k'
@@ -199,7 +193,7 @@ module _ (layout : Layout) (s t : Seats) (h : List Event) (g : Seated layout s h
           },
         );
         owner = inr (
-          or_right (owner_seat == p),
+          or-true (owner_seat == p),
           record {
             queue_is = moves.queue ∙ g.sender.queue_is;
             layout_is = moves.layout ∙ g.sender.layout_is;
@@ -213,7 +207,7 @@ module _ (layout : Layout) (s t : Seats) (h : List Event) (g : Seated layout s h
       } in
       acts_so f v w.seen new xs n (record { worker = w; delay = s.delay; senders = s.senders }) stand all
       (subst (λ (l : Layout). IsLegal l w.seen) (moves.layout ∙ g.sender.layout_is) moves.legal) g.sender.begins
-      (λ c seat on. elim (or_either (c == p) (c == owner_seat) on) [
+      (λ c seat on. elim (or_cases (c == p) (c == owner_seat) on) [
         | inl is ↦ subst (λ (m : ℕ). own m v ≡ own m h) (sym (eqb-true c p is)) g.sender.mine
         | inr is ↦ subst (λ (m : ℕ). own m v ≡ own m h) (sym (eqb-true c owner_seat is)) g.owner.mine
       ]) moves.adds.is

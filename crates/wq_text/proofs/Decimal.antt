@@ -6,6 +6,7 @@ use Rattle.std.specs.Fmt.{decimal}
 use Rattle.std.proofs.lemmas.Fmt.{decimal-digits_value, digits_value-decimal, digits_decimal, decimal_nonempty, first_decimal, decimal_digit}
 use Rattle.wq_text.specs.Decimal.{ReadsDecimals}
 use Rattle.wq_text.proofs.Words.{own}
+use mathlib.Core.Bool.{or-true}
 
 -- where a test decides a number, a number says that the test passed
 passed : (b : Bool) (m n : ℕ) → (if b then Some m else None) ≡ Some n → (b ≡ true) × (m ≡ n)
@@ -37,14 +38,10 @@ to_decimal w n e =
 no_front : (n : ℕ) → n < 2 ^ 64 → (nat_le (length (decimal n)) 1 || not (get_or (decimal n) 0 0 == 48)) ≡ true
 no_front zero small = rw (decimal_digit 0 (lit< tt)) refl
 no_front (suc n) small =
-    rw (ne_eqb _ _ above) (or_true (nat_le (length (decimal (suc n))) 1))
+    rw (ne_eqb _ _ above) (or-true (nat_le (length (decimal (suc n))) 1))
   where
     above : get_or (decimal (suc n)) 0 0 ≡ 48 → ⊥
     above e = omega (arith, first_decimal (suc n) (omega arith) small, e)
-
-    or_true : (b : Bool) → (b || true) ≡ true
-    or_true true = refl
-    or_true false = refl
 
 from_decimal : (n : ℕ) → n < 2 ^ 64 → spelled_number (decimal n) ≡ Some n
 unfolding spelled_number

@@ -8,6 +8,7 @@ use Rattle.std.specs.Iterator.{DrainsIf}
 use Rattle.std.proofs.lemmas.Iterator.{YieldsList, items_from_drains}
 use Rattle.arrayvec.specs.ArrayVec.{ArrayVec}
 use Rattle.std.proofs.lemmas.Str.Parse.{IsNumeralModel, numerals_by_value, tells_all_ascii_digits, parse_plain}
+use mathlib.Core.Bool.{or-true}
 
 pub own : IsNumeralModel (λ ds. all_ascii_digits ds ≡ true) (digits_value 10)
 own = numerals_by_value _ tells_all_ascii_digits
@@ -42,11 +43,7 @@ no_zero w lt e =
 
 no_zeros : (w : List ℕ) → (length w ≤ 1) ⊎ (get_or w 0 0 ≡ 48 → ⊥) → (nat_le (length w) 1 || not (get_or w 0 0 == 48)) ≡ true
 no_zeros w (inl le) = rw (le-leb _ _ le) refl
-no_zeros w (inr differs) = rw (ne_eqb _ _ differs) (or_true (nat_le (length w) 1))
-  where
-    or_true : (b : Bool) → (b || true) ≡ true
-    or_true true = refl
-    or_true false = refl
+no_zeros w (inr differs) = rw (ne_eqb _ _ differs) (or-true (nat_le (length w) 1))
 
 by_digits : {E : Type 0} (b : Bool) (w : List ℕ) (r : Result ℕ E) → all_ascii_digits w ≡ b → 0 < length w
     → OkIff r ((all_ascii_digits w ≡ true) × (0 < length w) × (digits_value 10 w < 2 ^ 64)) (digits_value 10 w)

@@ -1,9 +1,7 @@
 -- What the queueings of a list add, as far as they have come.
-use Rattle.wq_worker.proofs.Common.{◌≡◌, ℕ, ◌+◌, ◌<◌, Bool, true, false, cond, List, [], ◌∷◌, ◌++◌, length, drop, refl, sym, ◌∙◌, ap, subst, arith}
+use Rattle.wq_worker.proofs.Common.{◌≡◌, ℕ, ◌+◌, ◌<◌, Bool, true, false, cond, List, [], ◌∷◌, ◌++◌, refl, sym, ◌∙◌, ap, subst, arith}
 use Rattle.wq_worker.proofs.Common.{append_assoc, append-nil, Layout, Event, Hold, Busy, Push, shut, IsRunning, IsLegal, Sees, KnownPair, pair_owner}
 use Rattle.wq_worker.proofs.Common.{pair_sender, Follows, contended_of, Both, QueuesRest, finished, contended, open_from_shut}
-use Rattle.std.proofs.Common.{get_or}
-use Rattle.std.proofs.Common.{add-one, drop-cons}
 use Rattle.wq_words.specs.declared.event.Event.TheVariants.{Chain, ChainBusy}
 use Rattle.wq_words.specs.declared.answer.Answer.{Answer}
 use Rattle.wq_words.specs.declared.answer.Answer.TheVariants as answer
@@ -131,9 +129,6 @@ pub all_queued : (tries : ℕ) (ks js : List ℕ) (old new : KnownPair) → js �
 all_queued tries ks js old new none f =
     let split : ks ≡ f.queued = f.split ∙ (ap (λ (z : List ℕ). f.queued ++ z) none ∙ append-nil f.queued) in
     finished f.events none (subst (λ (z : List ℕ). Follows old.layout.items old.number (shut old.seen) z f.events) (sym split) f.told) f.moved
-
-pub next_left : (at : ℕ) (xs : List ℕ) → at < length xs → drop at xs ≡ get_or xs at 0 ∷ drop (at + 1) xs
-next_left at xs h = rw (add-one, drop-cons xs at 0) refl
 
 pub advance_stays : (tries : ℕ) (ks js : List ℕ) (old new : KnownPair) → QueuesRest tries ks js old new → Stays old.seen new.seen
 advance_stays tries ks js old new (finished es none told b) =

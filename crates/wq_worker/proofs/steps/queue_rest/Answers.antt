@@ -1,8 +1,9 @@
 use Rattle.wq_worker.proofs.Common.{◌≡◌, ℕ, List, [], ◌∷◌, ◌+◌, drop, refl, sym, subst, arith, drop_of_length-le, IsContended, QueuesRest}
 use Rattle.std.proofs.Common.{get_or}
 use Rattle.wq_worker.proofs.Pair.{both_still}
-use Rattle.wq_worker.proofs.Follow.{Sofar, sofar_runs, one_more, was_contended, all_queued, next_left}
+use Rattle.wq_worker.proofs.Follow.{Sofar, sofar_runs, one_more, was_contended, all_queued}
 use Rattle.wq_worker.proofs.steps.queue_rest.Goals as goal
+use Rattle.std.proofs.lemmas.List.{drop_more}
 
 pub loop-at-init : goal.loop-at-init
 loop-at-init c =
@@ -15,7 +16,7 @@ pub returns-then-not-queue_one-clause-queued : goal.returns-then-not-queue_one-c
 returns-then-not-queue_one-clause-queued c =
     let xs = c.args.follow.now in let at = c.loop-at.at in let ks = drop c.args.from xs in let k = get_or xs at 0 in let js = drop (at + 1) xs in
     let a = c.args.pair.now in let b = c.loop-at.pair in let d = c.queue_one.new.pair in
-    let next : drop at xs ≡ k ∷ js = next_left at xs c.loop-at-test.true in
+    let next : drop at xs ≡ k ∷ js = drop_more xs at 0 c.loop-at-test.true in
     subst (λ (z : List ℕ). QueuesRest c.args.tries ks z a d) (sym next)
     (was_contended ks k js c.queue_one.result c.args.tries a b d
     (subst (λ (z : List ℕ). Sofar ks z a b) next c.loop-at.invariant.1) c.if-not-queue_one.true c.queue_one.ensures.queued)
@@ -24,7 +25,7 @@ pub loop-at-preserved : goal.loop-at-preserved
 loop-at-preserved c =
     let xs = c.args.follow.now in let at = c.loop-at.at in let ks = drop c.args.from xs in let k = get_or xs at 0 in let js = drop (at + 1) xs in
     let a = c.args.pair.now in let b = c.loop-at.pair in let d = c.queue_one.new.pair in
-    let next : drop at xs ≡ k ∷ js = next_left at xs c.loop-at-test.true in (
+    let next : drop at xs ≡ k ∷ js = drop_more xs at 0 c.loop-at-test.true in (
       omega arith,
       one_more ks k js c.queue_one.result c.args.tries a b d
           (subst (λ (z : List ℕ). Sofar ks z a b) next c.loop-at.invariant.1) c.if-not-queue_one.false c.queue_one.ensures.queued,
