@@ -1,17 +1,14 @@
 -- A client that was turned away.
-use Rattle.std.proofs.Common.{◌≡◌, ℕ, ◌<◌, ◌==◌, true, List, [], ◌∷◌, ◌++◌, length, ap, append_assoc, sym, ◌∙◌, subst}
-use Rattle.std.proofs.lemmas.List.Elements.{filter-append}
+use Rattle.std.proofs.Common.{◌≡◌, ℕ, ◌<◌, true, List, [], ◌∷◌, ◌++◌, length, ap, append_assoc, sym, ◌∙◌, subst}
 use mathlib.Core.List.{IsPrefix}
 use Rattle.wq_words.specs.declared.event.Event.{Event}
 use Rattle.wq_words.specs.declared.event.Event.TheVariants.{Hold, Back}
 use Rattle.wq_words.specs.declared.event.Why.{Why}
-use Rattle.wq_words.specs.Seen.{own, seat_of}
+use Rattle.wq_words.specs.Seen.{own}
 use Rattle.wq_values.specs.Known.{Known, Sees}
 use Rattle.example_log.specs.declared.message.Message.{Message}
 use Rattle.example_log.specs.Sent.{takes_no_more, WasTurnedAway, from_access, from_errors, SendsUnlessTurned}
-
-own_more : (s : ℕ) (v more : List Event) → own s (v ++ more) ≡ own s v ++ own s more
-own_more s v more = filter-append (λ e. seat_of e == s) v more
+use Rattle.wq_words.proofs.Seen.{own-append}
 
 -- by a queueing that gave the item back for this
 pub turned_away : (k : ℕ) (reason : Why) (old new : Known) → takes_no_more reason ≡ true
@@ -23,7 +20,7 @@ turned_away k reason old new none sees =
       item = k;
       reason = reason;
       after = [];
-      is = ap (own s) sees.grows.is ∙ (own_more s old.seen sees.grows.new
+      is = ap (own s) sees.grows.is ∙ (own-append s old.seen sees.grows.new
           ∙ (ap (λ es. own s old.seen ++ es) sees.grows.mine ∙ sym (append_assoc (own s old.seen) held back)));
       takes_none = none;
     })
@@ -35,7 +32,7 @@ still_turned s old new more w = record {
   item = w.item;
   reason = w.reason;
   after = w.after ++ own s more.0;
-  is = ap (own s) (sym more.1) ∙ (own_more s old more.0 ∙ (ap (λ es. es ++ own s more.0) w.is
+  is = ap (own s) (sym more.1) ∙ (own-append s old more.0 ∙ (ap (λ es. es ++ own s more.0) w.is
       ∙ append_assoc w.before (Back s w.item w.reason ∷ w.after) (own s more.0)));
   takes_none = w.takes_none;
 }
