@@ -6,7 +6,7 @@ use Rattle.wq_delay.proofs.Common.{is_due, waiting, IsWheel, IsGathering, AreFou
 use Rattle.std.proofs.lemmas.Option.{same_Some}
 use Rattle.wq_delay.proofs.Rounds.{at_or}
 use Rattle.wq_delay.proofs.Standing.{later_same, later_some}
-use Rattle.wq_delay.proofs.Looking.{waits_there, steps_left, steps_fewer}
+use Rattle.wq_delay.proofs.Looking.{waits_there, steps_left, steps_fewer, less_number}
 use Rattle.wq_delay.proofs.Finding.{turn_slot}
 use Rattle.wq_delay.proofs.Leading.{row_due}
 
@@ -127,12 +127,8 @@ module _ (places : List (Option Place)) (next previous : List ℕ) (row : List E
     pub passing_nearer : (z : ℕ) → z ≡ get_or next x z → steps_left places head z < steps_left places head x
     passing_nearer z read =
         subst (λ (v : ℕ). steps_left places head v < steps_left places head x) (sym (next_read z read)) (steps_fewer places head x y ne
-        (λ far. let c = ap number_by x_item.1 in let d = ap number_by passing_here.1 in let e = less (on_table y row) (place_in places y) in
+        (λ far. let c = ap number_by x_item.1 in let d = ap number_by passing_here.1 in let e = less_number (on_table y row) (place_in places y) in
         let up = y_rises far in omega arith))
-      where
-        less : (b : Bool) (o : Option Place) → number_by (cond b None o) ≤ number_by o
-        less true o = omega arith
-        less false o = omega arith
 
 -- what still waits waited before
 earliest_fewer : (earliest : List ℕ) (w w' : ℕ → Option Place) → AreEarliest earliest w

@@ -1,14 +1,14 @@
 -- A slot is gone through place by place, and what is due is found, while all stays where it is.
-use Rattle.wq_delay.proofs.Common.{◌≡◌, ℕ, ◌+◌, ◌-◌, ◌*◌, ◌/◌, ◌%◌, ◌<◌, ◌≤◌, Bool, true, false, cond, ◌&&◌, ◌||◌, ◌≢◌, List, [], ◌∷◌, ◌++◌, length, get_or}
+use Rattle.wq_delay.proofs.Common.{◌≡◌, ℕ, ◌+◌, ◌-◌, ◌*◌, ◌/◌, ◌%◌, ◌<◌, ◌≤◌, Bool, true, false, ◌&&◌, ◌||◌, ◌≢◌, List, [], ◌∷◌, ◌++◌, length, get_or}
 use Rattle.wq_delay.proofs.Common.{nat_lt, nat_le, ◌==◌, slice_index, Some, None, Option, sym, refl, ap, ◌∙◌, subst, mod-lt, arith, mod-add-div'}
 use Rattle.wq_delay.proofs.Common.{add-mul-mod_self_right, nat_tests, get_or_read, Entry, on_table, Place, place_in, head_by, number_by, later_than, turn_of}
 use Rattle.wq_delay.proofs.Common.{IsWheel, AreOnTable, AreFound, entry_at, AreRings}
 use Rattle.std.proofs.lemmas.Option.{same_Some}
 use Rattle.wq_delay.proofs.Rounds.{at_or}
 use Rattle.wq_delay.proofs.Standing.{later_same, later_some}
-use Rattle.wq_delay.proofs.Looking.{or_false, on_push, steps_left, steps_fewer}
+use Rattle.wq_delay.proofs.Looking.{on_push, steps_left, steps_fewer, less_number}
 use Rattle.wq_delay.proofs.Fitting.{place_low, more_on_table}
-use mathlib.Core.Bool.{and-false}
+use mathlib.Core.Bool.{and-false, or-false}
 
 -- the slot of a later tick is the n-th after that of the tick t where its turn is n
 pub turn_slot : (t n due : ℕ) → t < due → turn_of t due ≡ n → due % 256 ≡ (t + 1 + n) % 256
@@ -244,7 +244,7 @@ module _ (places : List (Option Place)) (next previous : List ℕ) (t now n head
               → (on_table z es || (z == x)) ≡ (nat_le o.due now && is_passed t n (is_behind head y o (number y)) o)) x k
               (λ here. own o (same_Some q o (sym item_there.0 ∙ here)) (same_Some p o (sym at ∙ here)))
               (λ other there. let apart : (k == x) ≡ false = grind (arith, nat_tests) in
-              ap (λ (z : Bool). on_table k es || z) apart ∙ (or_false (on_table k es) ∙ other_which k o other there)) is);
+              ap (λ (z : Bool). on_table k es || z) apart ∙ (or-false (on_table k es) ∙ other_which k o other there)) is);
         }
       where
         own : (o : Place) → q ≡ o → p ≡ o
@@ -260,13 +260,9 @@ module _ (places : List (Option Place)) (next previous : List ℕ) (t now n head
     less_steps = steps_fewer places head x y ne
         (λ far. let c = x_number in let d = ap number_by item_there.0 in let e = less (place_in places y) in let up = y_rises far in omega arith)
       where
-        cut : (b : Bool) (p : Place) → number_by (cond b None (Some p)) ≤ p.arming + 1
-        cut true p = omega arith
-        cut false p = omega arith
-
         less : (o : Option Place) → number_by (later_than t o) ≤ number_by o
         less None = omega arith
-        less (Some p) = cut (nat_le p.due t) p
+        less (Some p) = less_number (nat_le p.due t) (Some p)
 
     -- and so it is where the next was read
     pub less_read : (z : ℕ) → z ≡ get_or next x z → steps_left places head z < steps_left places head x

@@ -7,6 +7,7 @@ use Rattle.wq_delay.proofs.Table.{place_some}
 use Rattle.wq_delay.proofs.Spelled.{entries_rows}
 use Rattle.wq_delay.proofs.Gathered.{due_only, ordered_due, place_due, place_valid}
 use Rattle.wq_delay.proofs.Leading.{kept_valid, ordered_single}
+use mathlib.Core.Bool.{and-false}
 
 filter_both : {X : Type 0} (p q : X → Bool) (xs : List X) → filter (λ x. p x && q x) xs ≡ filter p (filter q xs)
 filter_both p q [] = refl
@@ -38,13 +39,9 @@ some_twice t now p n =
     last true = refl
     last false = refl
 
-    off : (b : Bool) → false ≡ (b && false)
-    off true = refl
-    off false = refl
-
     by : (b : Bool) → is_some (due_only now (cond b (Some p) None)) ≡ (nat_le p.due now && (b || false))
     by true = last (nat_le p.due now)
-    by false = off (nat_le p.due now)
+    by false = sym (and-false (nat_le p.due now))
 
 module _ {places : List (Option Place)} {next previous : List ℕ} {row : List DueItem} {room front count tick : ℕ}
     (t : IsTimetable places next previous row room front count tick) (now : ℕ) where

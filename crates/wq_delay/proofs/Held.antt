@@ -6,6 +6,7 @@ use Rattle.wq_words.specs.Seen.{seat_of, own}
 use Rattle.wq_delay.proofs.Common.{◌≡◌, ℕ, ◌+◌, ◌<◌, ◌≤◌, Bool, true, false, cond, not, ◌&&◌, ◌||◌, ◌↔◌, List, [], ◌∷◌, ◌++◌, length, IsTrue, ◌==◌, count_by}
 use Rattle.wq_delay.proofs.Common.{filter, sym, refl, ap, ◌∙◌, subst, arith, eqb-true, nat_tests, length-filter, sum_by-append, Event, Back, Push, Hold, Layout}
 use Rattle.wq_delay.proofs.Common.{Holds, starts_hold, stops_hold, Entry, on_table, IsLegal, Known, Sees}
+use Rattle.std.proofs.lemmas.Bool.{and_parts}
 
 -- events that only the seat c makes are among its own
 module _ (p : Event → Bool) (c : ℕ) (mine : (e : Event) → p e ≡ true → (seat_of e == c) ≡ true) where
@@ -22,17 +23,13 @@ module _ (p : Event → Bool) (c : ℕ) (mine : (e : Event) → p e ≡ true →
   pub count_by-own : (h : List Event) → count_by p h ≡ count_by p (own c h)
   count_by-own h = sym (length-filter p h) ∙ (ap (length {A = Event}) (filter-own h) ∙ length-filter p (own c h))
 
-second_true : (p q : Bool) → (p && q) ≡ true → q ≡ true
-second_true true q is = is
-second_true false q is = absurd (cc)
-
 starts_mine : (s k : ℕ) (e : Event) → starts_hold s k e ≡ true → (seat_of e == s) ≡ true
-starts_mine s k (Hold t j) is = second_true (j == k) (t == s) is
+starts_mine s k (Hold t j) is = (and_parts (j == k) (t == s) is).1
 starts_mine s k _ is = absurd (cc)
 
 stops_mine : (s k : ℕ) (e : Event) → stops_hold s k e ≡ true → (seat_of e == s) ≡ true
-stops_mine s k (Push t j) is = second_true (j == k) (t == s) is
-stops_mine s k (Back t j why) is = second_true (j == k) (t == s) is
+stops_mine s k (Push t j) is = (and_parts (j == k) (t == s) is).1
+stops_mine s k (Back t j why) is = (and_parts (j == k) (t == s) is).1
 stops_mine s k _ is = absurd (cc)
 
 abbrev pub starts : ℕ → ℕ → List Event → ℕ

@@ -6,14 +6,15 @@ use Rattle.wq_delay.proofs.Common.{IsGathering, StillWaits, IsClean, AreRings}
 use Rattle.std.proofs.lemmas.Option.{same_Some}
 use Rattle.wq_delay.proofs.Rounds.{at_or}
 use Rattle.wq_delay.proofs.Wheel.{wheel_without}
+use mathlib.Core.Bool.{or-false}
 
-pub or_false : (b : Bool) → (b || false) ≡ b
-or_false true = refl
-or_false false = refl
+pub less_number : (b : Bool) (o : Option Place) → number_by (cond b None o) ≤ number_by o
+less_number true o = omega arith
+less_number false o = omega arith
 
 -- an entry more at the end of the row
 pub on_push : (j : ℕ) (es : List Entry) (e : Entry) → on_table j (es ++ e ∷ []) ≡ (on_table j es || (j == e.item))
-on_push j [] e = or_false (j == e.item)
+on_push j [] e = or-false (j == e.item)
 on_push j (f ∷ fs) e = by (j == f.item) (on_push j fs e)
   where
     by : (b : Bool) → on_table j (fs ++ e ∷ []) ≡ (on_table j fs || (j == e.item))
@@ -211,12 +212,8 @@ module _ (places : List (Option Place)) (next previous : List ℕ) (start row : 
 
     nearer : steps_left places head y < steps_left places head x
     nearer = steps_fewer places head x y ne
-        (λ far. let c = ap number_by q_is in let d = ap number_by item_here.1 in let e = less (on_table y row) (place_in places y) in
+        (λ far. let c = ap number_by q_is in let d = ap number_by item_here.1 in let e = less_number (on_table y row) (place_in places y) in
         let up = y_rises far in omega arith)
-      where
-        less : (b : Bool) (o : Option Place) → number_by (cond b None o) ≤ number_by o
-        less true o = omega arith
-        less false o = omega arith
 
     -- and so it is where the next was read
     pub nearer_read : (z : ℕ) → z ≡ get_or next x z → steps_left places head z < steps_left places head x
@@ -241,7 +238,7 @@ module _ (places : List (Option Place)) (next previous : List ℕ) (start row : 
       w_other : (j : ℕ) → j ≢ x → waiting places row' j ≡ waiting places row j
       w_other j other =
           let no : (j == x) ≡ false = grind (arith, nat_tests) in
-          ap (λ (z : Bool). cond z None (place_in places j)) (on_row j ∙ (ap (λ (z : Bool). on_table j row || z) no ∙ or_false (on_table j row)))
+          ap (λ (z : Bool). cond z None (place_in places j)) (on_row j ∙ (ap (λ (z : Bool). on_table j row || z) no ∙ or-false (on_table j row)))
 
       still : (k : ℕ) (o : Place) → waiting places row' k ≡ Some o → (k ≢ x) × (waiting places row k ≡ Some o)
       still k o is = at_or (λ z. waiting places row' z ≡ Some o → (z ≢ x) × (waiting places row z ≡ Some o)) x k

@@ -2,7 +2,7 @@
 use Rattle.wq_recording.proofs.Common.{◌≡◌, ◌≢◌, ℕ, ◌+◌, ◌-◌, ◌<◌, List, [], ◌∷◌, ◌++◌, length, take, drop, get_or, Option, Some, None, Result, Ok, Err, refl, sym, ap, subst, ◌∙◌, arith}
 use Rattle.wq_recording.proofs.Common.{append_assoc, length-append, Kind, Stage, Lines, ScriptError, parts, short_line, Stop, Rules, Verdict, IsLineAt}
 use Rattle.wq_recording.proofs.Common.{StopsWith, IsRefusedText, HasVerdict, HasFaultAt}
-use Rattle.std.proofs.lemmas.Option.{same_Some}
+use Rattle.std.proofs.lemmas.Option.{same_Some, none-some}
 use Rattle.wq_text.specs.declared.fault.Kind.TheVariants as kind
 use Rattle.wq_recording.specs.Verdict.{deciding_line, IsTooLongAt}
 use Rattle.std.proofs.lemmas.List.{length-drop, take-append-drop, get_or-append-add}
@@ -105,10 +105,7 @@ module _ {A E : Type 0} (gives : Lines A) (rules : Rules A E) (text other : List
   found_also : (v : Verdict E) (o : Option Stop) (n : ℕ) → HasVerdict gives rules text (Ok (record { layout = v.layout; events = v.events; stop = o }))
       → deciding_line {E = E} (Ok (record { layout = v.layout; events = v.events; stop = o })) ≡ Some n → n < length (parts other)
       → take n (parts other) ≡ take n (parts text) → HasVerdict gives rules other (Ok (record { layout = v.layout; events = v.events; stop = o }))
-  found_also v None n x is more same = absurd (none is)
-    where
-      none : {m : ℕ} → None ≡ Some m → ⊥
-      none e = cc
+  found_also v None n x is more same = absurd (none-some _ is)
   found_also v (Some stop) n x is more same = stops_also v stop n x (same_Some _ _ is) more same
 
   pub decided : (n : ℕ) (v : Result (Verdict E) ScriptError) → HasVerdict gives rules text v → deciding_line v ≡ Some n → n < length (parts text)
@@ -176,10 +173,7 @@ module _ {A E : Type 0} (inner : Lines A) (rules : Rules A E) (text other : List
   never_found : (v : Verdict E) (o : Option Stop) (n : ℕ)
       → HasVerdict (short_line inner) rules text (Ok (record { layout = v.layout; events = v.events; stop = o }))
       → deciding_line {E = E} (Ok (record { layout = v.layout; events = v.events; stop = o })) ≡ Some n → IsTooLongAt n text → ⊥
-  never_found v None n x is long = none is
-    where
-      none : {m : ℕ} → None ≡ Some m → ⊥
-      none e = cc
+  never_found v None n x is long = none-some _ is
   never_found v (Some stop) n x is long = never_stops v stop x (subst (λ (k : ℕ). IsTooLongAt k text) (sym (same_Some _ _ is)) long)
 
   pub decided_by_length : (n : ℕ) (v : Result (Verdict E) ScriptError) → HasVerdict (short_line inner) rules text v → deciding_line v ≡ Some n

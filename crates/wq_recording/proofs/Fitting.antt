@@ -17,6 +17,7 @@ use Rattle.wq_recording.specs.TraceReport.{trace_rules}
 use Rattle.wq_recording.proofs.OneCause.{one_event_cause, one_mark_cause, shown_next}
 use Rattle.wq_recording.proofs.Stages.{stays, passed}
 use Rattle.wq_recording.proofs.Verdicts.{AreFit}
+use Rattle.std.proofs.lemmas.Option.{none-some}
 
 -- only behind a whole header is anything asked for
 module _ {N A : Type 0} (g : Grammar N A) (s next : Stage) (a : A) where
@@ -50,11 +51,8 @@ module _ {N A : Type 0} (g : Grammar N A) (s next : Stage) (a : A) where
   ok_value : (x y : Stage × Option A) → ◌≡◌ {A = Result (Stage × Option A) Kind} (Ok x) (Ok y) → x ≡ y
   ok_value x y e = cc
 
-  some_none : None ≡ Some a → ⊥
-  some_none e = cc
-
   none_asked : (r : Result Stage Kind) → ◌≡◌ {A = Result (Stage × Option A) Kind} (of_one alone r) (Ok (next, Some a)) → ⊥
-  none_asked (Ok n) e = absurd (some_none (ap (λ (z : Stage × Option A). z.1) (ok_value (alone n) (next, Some a) e)))
+  none_asked (Ok n) e = absurd (none-some a (ap (λ (z : Stage × Option A). z.1) (ok_value (alone n) (next, Some a) e)))
   none_asked (Err k) e = cc
 
   by_first : (w : List ℕ) (ws : List (List ℕ)) (b : Bool)
@@ -68,7 +66,7 @@ module _ {N A : Type 0} (g : Grammar N A) (s next : Stage) (a : A) where
 
   asks_plain : (line : List ℕ) (b : Bool) → (if b then Ok (s, None) else plain_line_gives g s line) ≡ Ok (next, Some a) → IsWhole
   unfolding plain_line_gives words_give
-  asks_plain line true e = absurd (some_none (ap (λ (z : Stage × Option A). z.1) (ok_value (alone s) (next, Some a) e)))
+  asks_plain line true e = absurd (none-some a (ap (λ (z : Stage × Option A). z.1) (ok_value (alone s) (next, Some a) e)))
   asks_plain line false e = asks_words (words line) (passed kind.Space _ _ _ (passed kind.Bytes _ _ _ e))
 
 asks_line : {N A : Type 0} (g : Grammar N A) (s next : Stage) (a : A) (line : List ℕ) → line_gives g s line ≡ Ok (next, Some a)
@@ -76,7 +74,7 @@ asks_line : {N A : Type 0} (g : Grammar N A) (s next : Stage) (a : A) (line : Li
 asks_line {N} {A} g stage.Version next a line e = absurd (none (need kind.Version (bytes_eq line g.version)) e)
   where
     none : (r : Result (Unit {0}) Kind) → ◌≡◌ {A = Result (Stage × Option A) Kind} (of_none (stage.Items, None) r) (Ok (next, Some a)) → ⊥
-    none (Ok n) e = some_none g stage.Version next a (ap (λ (z : Stage × Option A). z.1) (ok_value g stage.Version next a (stage.Items, None) (next, Some a) e))
+    none (Ok n) e = none-some a (ap (λ (z : Stage × Option A). z.1) (ok_value g stage.Version next a (stage.Items, None) (next, Some a) e))
     none (Err k) e = cc
 asks_line g stage.Items next a line e = asks_plain g stage.Items next a line (is_passed_over line) e
 asks_line g (stage.Senders l) next a line e = asks_plain g (stage.Senders l) next a line (is_passed_over line) e

@@ -1,7 +1,7 @@
 -- What is left undone, number by number.
 use Rattle.std.proofs.Common.{◌≡◌, ℕ, ◌+◌, ◌<◌, List, [], ◌∷◌, ◌++◌, length, take, get_or, Some, None, slice_get, sym, ap, ◌∙◌, arith, take_all}
 use Rattle.std.proofs.lemmas.List.{take_more}
-use Rattle.std.proofs.lemmas.Option.{get_or_from_slice_get, slice_get-get_or}
+use Rattle.std.proofs.lemmas.Option.{get_or_from_slice_get, slice_get-get_or, none-some}
 
 -- those before this place, of as many as there are
 pub record LeftTo (left : List ℕ) (place end : ℕ) (numbers : List ℕ) : Type 0 where
@@ -20,10 +20,7 @@ module _ (left : List ℕ) (place end : ℕ) (numbers : List ℕ) (to : LeftTo l
       }
 
   pub left_none : place < end → None ≡ slice_get left place → ⊥
-  left_none here is = differ (is ∙ slice_get-get_or left place 0 (omega (arith, here, to.count)))
-    where
-      differ : {n : ℕ} → None ≡ Some n → ⊥
-      differ e = cc
+  left_none here is = none-some _ (is ∙ slice_get-get_or left place 0 (omega (arith, here, to.count)))
 
   pub left_all : end ≡ place → numbers ≡ left
   left_all done = to.taken ∙ take_all place left (omega (arith, to.count))

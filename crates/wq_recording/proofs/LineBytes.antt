@@ -1,7 +1,7 @@
 -- What the parts of a line come to.
 use Rattle.std.proofs.Common.{◌≡◌, ◌≢◌, ℕ, ◌+◌, ◌-◌, ◌<◌, ◌≤◌, ◌⊎◌, ◌||◌, Bool, true, false, List, [], ◌++◌, All, Option, Some, None, OnSome, Result, Ok, Err, IfOk, IsTrue, ◌↔◌, length}
 use Rattle.std.proofs.Common.{min, take, drop, slice_index, nat_lt, get_or, inl, inr, refl, le_refl, sym, ap, subst, ◌∙◌, arith, length-append, length-take, length-take-le, get_or-take}
-use Rattle.std.proofs.lemmas.Bool.{ltb-true}
+use Rattle.std.proofs.lemmas.Bool.{ltb-true, false≢true}
 use Rattle.wq_words.proofs.Common.{cases_lt}
 use Rattle.std.proofs.lemmas.List.{append-nil, get_or-append-add, take-take, drop_all}
 use Rattle.std.proofs.Math.Seq.{take-append_seam, drop-append_seam, take-append-add}
@@ -41,10 +41,7 @@ module _ (old bytes : List ℕ) (n : ℕ) (within : n ≤ length bytes) where
     read_some some true long is same =
         inl (ends_with some (sym (part_last some) ∙ is.0 refl (omega (arith, length-take-le n bytes within))))
     read_some some false true is same = inr (inl (ltb-true _ _ (sym same)))
-    read_some some false false is same = none_yet some none before (λ last. differ (is.1 (λ _. part_last some ∙ last)))
-      where
-        differ : false ≡ true → ⊥
-        differ e = cc
+    read_some some false false is same = none_yet some none before (λ last. false≢true (is.1 (λ _. part_last some ∙ last)))
 
   read_none : (known left : Option (List ℕ)) (ends long : Bool) → n ≡ 0 → length old ≤ 4097 → IsTrue ends ↔ IsEmptyOrEndsWith (take n bytes) 10
       → (n < length bytes → n < 4097 - length old → 0 < n) → (length bytes ≡ 0 → OnSome known (IsAtEnd left))
@@ -57,10 +54,7 @@ module _ (old bytes : List ℕ) (n : ℕ) (within : n ≤ length bytes) where
         | inr none ↦ inl (omega (arith, longer, none, zero))
       ]
       by_room (inr empty) = inr (end (omega arith))
-  read_none known left false long zero room is full end = absurd (differ (is.1 (λ some. absurd (omega (arith, some, length-take-le n bytes within)))))
-    where
-      differ : false ≡ true → ⊥
-      differ e = cc
+  read_none known left false long zero room is full end = absurd (false≢true (is.1 (λ some. absurd (omega (arith, some, length-take-le n bytes within)))))
 
   stops : All (λ x. x ≢ 10) old → All (λ x. x ≢ 10) (take (n - 1) bytes) → StopsAt (old ++ take n bytes) 10
   stops none before = elim (cases_lt 0 n) [

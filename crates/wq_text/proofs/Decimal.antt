@@ -7,6 +7,7 @@ use Rattle.std.proofs.lemmas.Fmt.{decimal-digits_value, digits_value-decimal, di
 use Rattle.wq_text.specs.Decimal.{ReadsDecimals}
 use Rattle.wq_text.proofs.Words.{own}
 use mathlib.Core.Bool.{or-true}
+use Rattle.std.proofs.lemmas.Bool.{false≢true}
 
 -- where a test decides a number, a number says that the test passed
 passed : (b : Bool) (m n : ℕ) → (if b then Some m else None) ≡ Some n → (b ≡ true) × (m ≡ n)
@@ -18,10 +19,7 @@ no_zero_in_front w e some zero_first = by_length (nat_le (length w) 1) refl (rw 
   where
     by_length : (b : Bool) → nat_le (length w) 1 ≡ b → (nat_le (length w) 1 || not true) ≡ true → length w ≡ 1
     by_length true short h = let le = leb-true _ _ short in omega (arith, le)
-    by_length false long h = absurd (differ (sym (ap (λ b. b || not true) long) ∙ h))
-      where
-        differ : false ≡ true → ⊥
-        differ e = cc
+    by_length false long h = absurd (false≢true (sym (ap (λ b. b || not true) long) ∙ h))
 
 to_decimal : (w : List ℕ) (n : ℕ) → spelled_number w ≡ Some n → (w ≡ decimal n) × (n < 2 ^ 64)
 unfolding spelled_number

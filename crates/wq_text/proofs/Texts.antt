@@ -3,7 +3,7 @@ use Rattle.wq_text.proofs.Common.{◌≡◌, ℕ, suc, ◌+◌, ◌<◌, ◌≤�
 use Rattle.wq_text.proofs.Common.{Err, position, ◌==◌, refl, sym, ap, ◌∙◌, arith, subst, inl, inr, length-append, append_assoc, count_by, slice_split}
 use Rattle.wq_text.proofs.Common.{position_or_len, onto_first, option_to_list, cases_lt, lt-ltb, le-ltb, eqb-true, eqb-false, append-nil, Layout, ScriptError}
 use Rattle.wq_text.proofs.Common.{RefusedFor, Stage, layout_at, Lines, LinesLead, Spells, HasLineFault, IsRefusal, end_fault, parts}
-use Rattle.std.proofs.lemmas.Option.{same_Some}
+use Rattle.std.proofs.lemmas.Option.{same_Some, none-some}
 use Rattle.std.proofs.lemmas.List.Splits.{slice_split-cons_no, slice_split_first, length-slice_split}
 use Rattle.wq_text.specs.TextLimits.{most_bytes}
 use Rattle.wq_text.specs.declared.fault.Kind.TheVariants as kind
@@ -23,12 +23,9 @@ one_part p (x ∷ xs) le = one_step p x xs (p x) refl (one_part p xs) le
 
 pub no_line : (text : List ℕ) → None ≡ position (λ b. b == 10) text → parts text ≡ text ∷ []
 no_line text e = elim (cases_lt (position_or_len (λ b. b == 10) text) (length text)) [
-  | inl lt ↦ absurd (differ (rw (lt-ltb _ _ lt) at e))
+  | inl lt ↦ absurd (none-some _ (rw (lt-ltb _ _ lt) at e))
   | inr le ↦ one_part (λ b. b == 10) text le
 ]
-  where
-    differ : {n : ℕ} → None ≡ Some n → ⊥
-    differ e = cc
 
 pub one_line : (text : List ℕ) (end : ℕ) → Some end ≡ position (λ b. b == 10) text
     → (end < length text) × (parts text ≡ take end text ∷ parts (drop (end + 1) text))

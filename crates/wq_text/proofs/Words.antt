@@ -9,6 +9,7 @@ use Rattle.std.proofs.lemmas.Iterator.{YieldsList, items_from_drains}
 use Rattle.arrayvec.specs.ArrayVec.{ArrayVec}
 use Rattle.std.proofs.lemmas.Str.Parse.{IsNumeralModel, numerals_by_value, tells_all_ascii_digits, parse_plain}
 use mathlib.Core.Bool.{or-true}
+use Rattle.std.proofs.lemmas.Bool.{false≢true}
 
 pub own : IsNumeralModel (λ ds. all_ascii_digits ds ≡ true) (digits_value 10)
 own = numerals_by_value _ tells_all_ascii_digits
@@ -53,10 +54,7 @@ by_digits {E} true w (Err x) e lt h = rw (le-ltb (digits_value 10 w) (2 ^ 64) (n
   where
     not_below : {m n : ℕ} → (m < n → ⊥) → n ≤ m
     not_below h = omega (arith, h)
-by_digits {E} false w (Ok x) e lt h = absurd (false_true (sym e ∙ h.0.0))
-  where
-    false_true : false ≡ true → ⊥
-    false_true e = cc
+by_digits {E} false w (Ok x) e lt h = absurd (false≢true (sym e ∙ h.0.0))
 by_digits {E} false w (Err x) e lt h = refl
 
 pub parsed : {E : Type 0} (w : List ℕ) (r : Result ℕ E) → ParsesUnsigned 64 10 w r → 0 < length w → (get_or w 0 0 ≡ 43 → ⊥)

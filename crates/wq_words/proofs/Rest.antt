@@ -5,25 +5,18 @@ use Rattle.wq_words.proofs.Common.{slice_get_within, slice_get-get_or, Event, Pu
 use Rattle.wq_words.specs.Rest.{is_rest, wakes, WakesAt, BeginsStretch, WakesOnce, WakesBeforeTake, NoneWakesAfterTake, WakesOnceARest, is_work, IsTaking}
 use Rattle.wq_words.proofs.Growing.{count_by_push, take_more_some}
 use Rattle.wq_words.proofs.Lasts.{after_last_push_yes, after_last_push_no}
+use mathlib.Core.Bool.{and-false, and-true}
 
 -- whether the queue rests after an event, where it did or did not before
 abbrev pub wakes_after : Bool → Event → Bool
 wakes_after q e = is_rest e || (q && not (is_work e))
 
-and_true : (b : Bool) → b ≡ (b && true)
-and_true true = refl
-and_true false = refl
-
-no_and : (b : Bool) → false ≡ (b && false)
-no_and true = refl
-no_and false = refl
-
 pub not_zero : (n : ℕ) → 0 < n → (n == 0) ≡ false
 not_zero n lt = grind (arith, nat_tests)
 
 one_more : (n : ℕ) (b : Bool) → ((n + cond b 1 0) == 0) ≡ ((n == 0) && not b)
-one_more n true = not_zero (n + 1) (omega arith) ∙ no_and (n == 0)
-one_more n false = ap (λ (m : ℕ). m == 0) (add-zero n) ∙ and_true (n == 0)
+one_more n true = not_zero (n + 1) (omega arith) ∙ sym (and-false (n == 0))
+one_more n false = ap (λ (m : ℕ). m == 0) (add-zero n) ∙ sym (and-true (n == 0))
 
 pub wakes_push : (h : List Event) (e : Event) → wakes (h ++ e ∷ []) ≡ wakes_after (wakes h) e
 wakes_push h e = go (is_rest e) refl
@@ -37,7 +30,7 @@ wakes_push h e = go (is_rest e) refl
 
 -- an event that is neither Push, Take, Drain nor Rest leaves a queue resting or at work
 pub wakes_quiet : (h : List Event) (e : Event) → is_rest e ≡ false → is_work e ≡ false → wakes (h ++ e ∷ []) ≡ wakes h
-wakes_quiet h e no_rest no_work = wakes_push h e ∙ rw (no_rest, no_work) (sym (and_true (wakes h)))
+wakes_quiet h e no_rest no_work = wakes_push h e ∙ rw (no_rest, no_work) (and-true (wakes h))
 
 worked : (q : Bool) (e : Event) → is_work e ≡ true → wakes_after q e ≡ false
 worked true (Push s k) is = refl
