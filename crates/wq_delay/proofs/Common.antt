@@ -12,6 +12,7 @@ pub use Rattle.std.proofs.lemmas.List.Elements.{All-head, All-tail, All-push, Al
 pub use Rattle.std.proofs.lemmas.List.Elements.{All-take}
 pub use Rattle.std.proofs.lemmas.List.Sums.{sum_by-cons, length-filter, sum_by-append}
 pub use Rattle.std.proofs.lemmas.Map.Steps.{length-le_from_distinct_below}
+pub use Rattle.std.proofs.lemmas.Option.{same_Some}
 pub use Rattle.std.specs.List.{AllZip, AllByRecursion, list_any, range_with_len}
 unfoldable pub use Rattle.std.specs.List.{IsDistinct}
 pub use Rattle.wq_words.specs.declared.event.Event.{Event}

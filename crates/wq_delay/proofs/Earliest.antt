@@ -2,8 +2,7 @@
 use Rattle.wq_delay.proofs.Common.{◌≡◌, ℕ, ◌+◌, ◌%◌, ◌<◌, ◌≤◌, min, Bool, true, false, cond, ◌&&◌, ◌||◌, ◌≢◌, List, length, get_or, set, nat_lt, nat_le}
 use Rattle.wq_delay.proofs.Common.{◌==◌, slice_index, Some, None, All, Option, sym, refl, ap, ◌∙◌, subst, mod-lt, arith, nat_tests, get_or_read, get_or-set_same}
 use Rattle.wq_delay.proofs.Common.{get_or-set_other, length-set, Entry, on_table, Place, place_at, place_in, head_by, number_by, later_than, turn_of, SaysPlace}
-use Rattle.wq_delay.proofs.Common.{is_due, waiting, IsWheel, IsGathering, AreFound, StillWaits, IsClean, AreEarliest, WaitFrom, AreRings}
-use Rattle.std.proofs.lemmas.Option.{same_Some}
+use Rattle.wq_delay.proofs.Common.{is_due, waiting, IsWheel, IsGathering, AreFound, StillWaits, IsClean, AreEarliest, WaitFrom, AreRings, same_Some}
 use Rattle.wq_delay.proofs.Rounds.{at_or}
 use Rattle.wq_delay.proofs.Standing.{later_same, later_some}
 use Rattle.wq_delay.proofs.Looking.{waits_there, steps_left, steps_fewer, less_number}

@@ -2,8 +2,7 @@
 use Rattle.wq_delay.proofs.Common.{◌≡◌, ℕ, ◌+◌, ◌-◌, ◌*◌, ◌/◌, ◌%◌, ◌<◌, ◌≤◌, Bool, true, false, ◌&&◌, ◌||◌, ◌≢◌, List, [], ◌∷◌, ◌++◌, length, get_or}
 use Rattle.wq_delay.proofs.Common.{nat_lt, nat_le, ◌==◌, slice_index, Some, None, Option, sym, refl, ap, ◌∙◌, subst, mod-lt, arith, mod-add-div'}
 use Rattle.wq_delay.proofs.Common.{add-mul-mod_self_right, nat_tests, get_or_read, Entry, on_table, Place, place_in, head_by, number_by, later_than, turn_of}
-use Rattle.wq_delay.proofs.Common.{IsWheel, AreOnTable, AreFound, entry_at, AreRings}
-use Rattle.std.proofs.lemmas.Option.{same_Some}
+use Rattle.wq_delay.proofs.Common.{IsWheel, AreOnTable, AreFound, entry_at, AreRings, same_Some}
 use Rattle.wq_delay.proofs.Rounds.{at_or}
 use Rattle.wq_delay.proofs.Standing.{later_same, later_some}
 use Rattle.wq_delay.proofs.Looking.{on_push, steps_left, steps_fewer, less_number}

@@ -1,8 +1,7 @@
 -- The table that a list of places spells.
 use Rattle.wq_delay.proofs.Common.{◌≡◌, ℕ, zero, suc, ◌+◌, ◌-◌, ◌<◌, Bool, true, false, cond, ◌≢◌, List, [], ◌∷◌, is_some, nat_lt, ◌==◌, Some, None, Option}
 use Rattle.wq_delay.proofs.Common.{sym, refl, ap, ◌∙◌, subst, arith, eqb-true, nat_tests, AllByRecursion, Entry, IsOrdered, on_table, IsBefore, all-more}
-use Rattle.wq_delay.proofs.Common.{first_false, second_false, all_by, Place, place_in, entry_at, place_at, entries_of, place_of, AreApart, AreRows}
-use Rattle.std.proofs.lemmas.Option.{same_Some}
+use Rattle.wq_delay.proofs.Common.{first_false, second_false, all_by, Place, place_in, entry_at, place_at, entries_of, place_of, AreApart, AreRows, same_Some}
 use Rattle.wq_delay.specs.Rows.{goes_before, slotted, with_place, entries_from}
 use Rattle.wq_delay.proofs.Table.{place_some, put_by}
 use Rattle.wq_words.proofs.Cases.{none_told}

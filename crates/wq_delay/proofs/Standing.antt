@@ -3,8 +3,7 @@ use Rattle.wq_delay.proofs.Common.{◌≡◌, ℕ, ◌+◌, ◌%◌, ◌<◌, �
 use Rattle.wq_delay.proofs.Common.{nat_lt, nat_le, ◌==◌, slice_index, Some, None, All, filter, Option, sym, refl, ap, ◌∙◌, subst, arith, get_or-set_other}
 use Rattle.wq_delay.proofs.Common.{get_or-set_same, eqb-true, nat_tests, get_or_read, length-set, All-head, All-tail, All-weaker, All-take, Entry, due_part}
 use Rattle.wq_delay.proofs.Common.{without, IsOrdered, on_table, placed, AreArmedBefore, without_off, length_placed, Place, DueItem, place_in, later_than}
-use Rattle.wq_delay.proofs.Common.{IsWheel, entry_at, entry_of, place_at, entries_of, stands, IsTimetable, AreApart, is_place, AreRows}
-use Rattle.std.proofs.lemmas.Option.{same_Some}
+use Rattle.wq_delay.proofs.Common.{IsWheel, entry_at, entry_of, place_at, entries_of, stands, IsTimetable, AreApart, is_place, AreRows, same_Some}
 use Rattle.wq_delay.proofs.Rounds.{at_or}
 use Rattle.wq_delay.proofs.Wheel.{wheel_behind, wheel_without}
 use Rattle.wq_delay.proofs.Rows.{below_place, rows_placed, rows_without, known_on}

@@ -4,6 +4,7 @@ pub use Rattle.std.proofs.Common.{Option, Some, None, IfSome, OnSome, Result, Ok
 pub use Rattle.std.proofs.Common.{◌∙◌, inl, inr, arith, rules, nat_le, nat_lt}
 pub use Rattle.std.proofs.Common.{flat_map, length-append, append_assoc, slice_index, slice_get}
 pub use Rattle.std.proofs.lemmas.List.{append-nil}
+pub use Rattle.std.proofs.lemmas.Option.{same_Some, none-some}
 pub use Rattle.std.specs.Option.{option_to_list}
 pub use Rattle.wq_words.proofs.Common.{cases_lt}
 pub use Rattle.wq_words.specs.declared.layout.Layout.{Layout}

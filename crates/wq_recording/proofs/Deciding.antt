@@ -1,8 +1,7 @@
 -- What stands behind the line that decides changes nothing.
 use Rattle.wq_recording.proofs.Common.{◌≡◌, ◌≢◌, ℕ, ◌+◌, ◌-◌, ◌<◌, List, [], ◌∷◌, ◌++◌, length, take, drop, get_or, Option, Some, None, Result, Ok, Err, refl, sym, ap, subst, ◌∙◌, arith}
 use Rattle.wq_recording.proofs.Common.{append_assoc, length-append, Kind, Stage, Lines, ScriptError, parts, short_line, Stop, Rules, Verdict, IsLineAt}
-use Rattle.wq_recording.proofs.Common.{StopsWith, IsRefusedText, HasVerdict, HasFaultAt}
-use Rattle.std.proofs.lemmas.Option.{same_Some, none-some}
+use Rattle.wq_recording.proofs.Common.{StopsWith, IsRefusedText, HasVerdict, HasFaultAt, same_Some, none-some}
 use Rattle.wq_text.specs.declared.fault.Kind.TheVariants as kind
 use Rattle.wq_recording.specs.Verdict.{deciding_line, IsTooLongAt}
 use Rattle.std.proofs.lemmas.List.{length-drop, take-append-drop, get_or-append-add}

@@ -1,6 +1,6 @@
 -- The rules of histories and of traces fit their lines.
 use Rattle.wq_recording.proofs.Common.{◌≡◌, ℕ, Bool, true, false, List, [], ◌∷◌, Option, Some, None, Result, Ok, Err, ap}
-use Rattle.wq_recording.proofs.Common.{Layout, Kind, Stage, Grammar, line_gives, recording_line}
+use Rattle.wq_recording.proofs.Common.{Layout, Kind, Stage, Grammar, line_gives, recording_line, none-some}
 use Rattle.std.specs.Prelude.{if◌then◌else◌}
 use Rattle.std.specs.Str.{bytes_eq}
 use Rattle.wq_text.specs.declared.header.Stage.TheVariants as stage
@@ -17,7 +17,6 @@ use Rattle.wq_recording.specs.TraceReport.{trace_rules}
 use Rattle.wq_recording.proofs.OneCause.{one_event_cause, one_mark_cause, shown_next}
 use Rattle.wq_recording.proofs.Stages.{stays, passed}
 use Rattle.wq_recording.proofs.Verdicts.{AreFit}
-use Rattle.std.proofs.lemmas.Option.{none-some}
 
 -- only behind a whole header is anything asked for
 module _ {N A : Type 0} (g : Grammar N A) (s next : Stage) (a : A) where

@@ -1,7 +1,6 @@
 -- What follows of what a checker was told: where the first event of a line is not legal, and that all before it are.
 use Rattle.wq_recording.proofs.Common.{◌≡◌, List, [], ◌∷◌, Option, Some, None, refl, sym, ap, subst, ◌∙◌, append-nil, Layout, Cause, Stage, Rules, StopsAmong}
-use Rattle.wq_recording.proofs.Common.{layout_at, HasTold, IsMadeAt}
-use Rattle.std.proofs.lemmas.Option.{same_Some}
+use Rattle.wq_recording.proofs.Common.{layout_at, HasTold, IsMadeAt, same_Some}
 
 pub stops_first : {A E : Type 0} (rules : Rules A E) (layout : Layout) (h : List E) (event : E) (rest : List E) (IsAfter : List E → Type 0) (cause : Cause)
     → IsAfter h → rules.HasCause layout h event cause → StopsAmong rules layout h (event ∷ rest) IsAfter cause

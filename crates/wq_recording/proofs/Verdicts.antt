@@ -2,8 +2,7 @@
 use Rattle.wq_recording.proofs.Common.{◌≡◌, ◌≢◌, ℕ, ◌+◌, List, [], ◌∷◌, ◌++◌, length, Option, Some, None, Result, Ok, Err, refl, sym, ap, subst, ◌∙◌}
 use Rattle.wq_recording.proofs.Common.{inl, inr, flat_map, option_to_list, append_assoc, append-nil, Layout, Cause, Kind, ScriptError, Stage, Lines}
 use Rattle.wq_recording.proofs.Common.{LinesLead, layout_at, Stop, Rules, Verdict, IsLineAt, IsLegalText, StopsWith, IsRefusedText, HasVerdict}
-use Rattle.wq_recording.proofs.Common.{HasFaultAt}
-use Rattle.std.proofs.lemmas.Option.{same_Some}
+use Rattle.wq_recording.proofs.Common.{HasFaultAt, same_Some}
 use Rattle.wq_recording.proofs.Leading.{same_lead, LeadsThrough, through, stays_through}
 use Rattle.wq_recording.proofs.Places.{Places, places}
 use Rattle.wq_text.specs.declared.header.Stage.TheVariants as stage

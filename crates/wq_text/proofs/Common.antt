@@ -3,6 +3,7 @@ pub use Rattle.std.proofs.Common.{lit<, map, Result, Ok, Err, Bor, MatchOption, 
 pub use Rattle.std.proofs.lemmas.Bool.{ltb-true, leb-true, le-leb, true≢false, lt-leb}
 pub use Rattle.std.proofs.lemmas.List.{at_drop_more, at_drop_all, length-map, take-map}
 pub use Rattle.std.proofs.lemmas.List.Elements.{All-append, All-nil}
+pub use Rattle.std.proofs.lemmas.Option.{same_Some}
 pub use Rattle.std.proofs.lemmas.Result.{err_from_is_err_and}
 pub use Rattle.std.specs.List.{list_all, slice_split, position_or_len, onto_first}
 pub use Rattle.std.specs.Option.{option_to_list}

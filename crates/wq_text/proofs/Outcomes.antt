@@ -1,8 +1,7 @@
 -- A text is spelled in one way at most, or refused for one fault at most, and never both.
 use Rattle.wq_text.proofs.Common.{◌≡◌, ℕ, ◌+◌, ◌⊎◌, List, [], ◌∷◌, ◌++◌, length, Option, Some, Result, Ok, Err, refl, sym, ap, ◌∙◌, arith, subst, inl, inr}
 use Rattle.wq_text.proofs.Common.{option_to_list, Layout, Kind, ScriptError, Stage, layout_at, Lines, LinesLead, Spells, end_fault, HasLineFault, IsRefusal}
-use Rattle.wq_text.proofs.Common.{HasOneOutcome}
-use Rattle.std.proofs.lemmas.Option.{same_Some}
+use Rattle.wq_text.proofs.Common.{HasOneOutcome, same_Some}
 use Rattle.wq_text.specs.declared.header.Stage.TheVariants as stage
 use Rattle.wq_words.proofs.Lists.{none_cons}
 use Rattle.wq_words.proofs.Cases.{same_ok, same_err, clash}

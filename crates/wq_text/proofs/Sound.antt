@@ -1,7 +1,6 @@
 -- What a line gives keeps what was read sound.
 use Rattle.wq_text.proofs.Common.{◌≡◌, ℕ, zero, suc, ◌∙◌, All, List, [], ◌∷◌, ◌++◌, Option, Some, None, sym, subst, arith, option_to_list, append-nil}
-use Rattle.wq_text.proofs.Common.{All-append, All-nil, Layout, Stage, layout_at, AreSound, SoundAt, KeepsSound, KeepsHeader}
-use Rattle.std.proofs.lemmas.Option.{same_Some}
+use Rattle.wq_text.proofs.Common.{All-append, All-nil, Layout, Stage, layout_at, AreSound, SoundAt, KeepsSound, KeepsHeader, same_Some}
 use Rattle.wq_text.specs.declared.header.Stage.TheVariants as stage
 
 pub all_one : {A : Type 0} (P : A → Type 0) (x : A) → P x → All P (x ∷ [])

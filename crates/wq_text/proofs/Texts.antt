@@ -2,8 +2,8 @@
 use Rattle.wq_text.proofs.Common.{◌≡◌, ℕ, suc, ◌+◌, ◌<◌, ◌≤◌, Bool, true, false, not, List, [], ◌∷◌, ◌++◌, length, take, drop, cond, Option, Some, None, Ok}
 use Rattle.wq_text.proofs.Common.{Err, position, ◌==◌, refl, sym, ap, ◌∙◌, arith, subst, inl, inr, length-append, append_assoc, count_by, slice_split}
 use Rattle.wq_text.proofs.Common.{position_or_len, onto_first, option_to_list, cases_lt, lt-ltb, le-ltb, eqb-true, eqb-false, append-nil, Layout, ScriptError}
-use Rattle.wq_text.proofs.Common.{RefusedFor, Stage, layout_at, Lines, LinesLead, Spells, HasLineFault, IsRefusal, end_fault, parts}
-use Rattle.std.proofs.lemmas.Option.{same_Some, none-some}
+use Rattle.wq_text.proofs.Common.{RefusedFor, Stage, layout_at, Lines, LinesLead, Spells, HasLineFault, IsRefusal, end_fault, parts, same_Some}
+use Rattle.std.proofs.lemmas.Option.{none-some}
 use Rattle.std.proofs.lemmas.List.Splits.{slice_split-cons_no, slice_split_first, length-slice_split}
 use Rattle.wq_text.specs.TextLimits.{most_bytes}
 use Rattle.wq_text.specs.declared.fault.Kind.TheVariants as kind
