@@ -8,6 +8,7 @@ use Rattle.wq_delay.proofs.Standing.{later_same, later_some}
 use Rattle.wq_delay.proofs.Looking.{waits_there, steps_left, steps_fewer, less_number}
 use Rattle.wq_delay.proofs.Finding.{turn_slot}
 use Rattle.wq_delay.proofs.Leading.{row_due}
+use Rattle.wq_delay.proofs.Wheel.{item_low}
 
 -- at the place x of the slot with this head, what waits before it is due at the tick t or later
 pub record Passing (places : List (Option Place)) (row : List Entry) (head t x : ℕ) : Type 0 where
@@ -37,19 +38,12 @@ module _ (places : List (Option Place)) (next previous : List ℕ) (row : List E
   number_item : (k : ℕ) (p : Place) → w k ≡ Some p → number_by (w k) ≡ p.arming + 1
   number_item k p is = ap number_by is
 
-  item_low : (k : ℕ) (p : Place) → w k ≡ Some p → k < size
-  item_low k p is = by (nat_lt k size) refl
-    where
-      by : (b : Bool) → nat_lt k size ≡ b → k < size
-      by true lt = grind (arith, nat_tests)
-      by false ge = let none = wheel.heads k (grind (arith, nat_tests)) in absurd (cc)
-
   starts : (t : ℕ) → Passing places row head t (slice_index next head)
   starts t = record {
     low = r.next_low head low;
     here = r.stays head low ∙ head_own;
     done = λ k p is slot below.
-        let k_low = item_low k p is in let e = number_item k p is in let zero_is : number_by (w head) ≡ 0 = ap number_by (wheel.heads head high) in
+        let k_low = item_low wheel k p is in let e = number_item k p is in let zero_is : number_by (w head) ≡ 0 = ap number_by (wheel.heads head high) in
         let near = r.nearest head k low (omega arith) (head_own ∙ (sym slot ∙ sym (slot_item k p is))) (omega arith) in
         let f = below (λ s. near.0 (s ∙ sym head_own)) in let o = near.1 in absurd (omega arith);
   }
@@ -78,7 +72,7 @@ module _ (places : List (Option Place)) (next previous : List ℕ) (row : List E
     q = x_item.0
 
     pub passing_here : (x < size) × (place_in places x ≡ Some q)
-    passing_here = (item_low x q x_item.1, (waits_there places row x q x_item.1).1)
+    passing_here = (item_low wheel x q x_item.1, (waits_there places row x q x_item.1).1)
 
     y_here : head_by size y (w y) ≡ head
     y_here = r.stays x l.low ∙ l.here
@@ -90,7 +84,7 @@ module _ (places : List (Option Place)) (next previous : List ℕ) (row : List E
     between : (s : ℕ) → s ≤ t → (k : ℕ) (p : Place) → k ≢ x → w k ≡ Some p → size + p.due % 256 ≡ head
         → (y ≢ head → p.arming + 1 < number_by (w y)) → s ≤ p.due
     between s less k p other is slot below =
-        let k_low : k < size + 256 = let e = item_low k p is in omega arith in
+        let k_low : k < size + 256 = let e = item_low wheel k p is in omega arith in
         let same : head_by size k (w k) ≡ head_by size x (w x) = slot_item k p is ∙ (slot ∙ sym l.here) in
         by (nat_lt (number_by (w x)) (number_by (w k))) (nat_lt (number_by (w k)) (number_by (w x))) refl refl k_low same
       where

@@ -4,7 +4,7 @@ use Rattle.wq_delay.proofs.Common.{nat_lt, ◌==◌, slice_index, Some, None, Al
 use Rattle.wq_delay.proofs.Common.{Entry, on_table, first_false, second_false, Place, place_in, head_by, number_by, entry_at, times, SaysPlace, waiting}
 use Rattle.wq_delay.proofs.Common.{IsGathering, StillWaits, IsClean, AreRings, same_Some}
 use Rattle.wq_delay.proofs.Rounds.{at_or}
-use Rattle.wq_delay.proofs.Wheel.{wheel_without}
+use Rattle.wq_delay.proofs.Wheel.{wheel_without, item_low}
 use mathlib.Core.Bool.{or-false}
 
 pub less_number : (b : Bool) (o : Option Place) → number_by (cond b None o) ≤ number_by o
@@ -93,13 +93,6 @@ module _ (places : List (Option Place)) (next previous : List ℕ) (start row : 
   number_item : (k : ℕ) (p : Place) → waiting places row k ≡ Some p → number_by (waiting places row k) ≡ p.arming + 1
   number_item k p is = ap number_by is
 
-  item_low : (g : IsGathering places next previous row now) → (k : ℕ) (p : Place) → waiting places row k ≡ Some p → k < size
-  item_low g k p is = by (nat_lt k size) refl
-    where
-      by : (b : Bool) → nat_lt k size ≡ b → k < size
-      by true lt = grind (arith, nat_tests)
-      by false ge = let none = g.wheel.heads k (grind (arith, nat_tests)) in absurd (cc)
-
   starts : IsGathering places next previous row now → Looking places next previous row row head now (slice_index next head)
   starts g =
       let r = g.wheel.rings in
@@ -110,7 +103,7 @@ module _ (places : List (Option Place)) (next previous : List ℕ) (start row : 
         low = r.next_low head low;
         here = r.stays head low ∙ own;
         done = λ k p is slot below.
-            let k_low = item_low g k p is in let e = number_item k p is in
+            let k_low = item_low g.wheel k p is in let e = number_item k p is in
             let near = r.nearest head k low (omega arith) (own ∙ (sym slot ∙ sym (slot_item k p is))) (omega arith) in
             let f = below (λ s. near.0 (s ∙ sym own)) in let o = near.1 in absurd (omega arith);
       }
@@ -161,7 +154,7 @@ module _ (places : List (Option Place)) (next previous : List ℕ) (start row : 
     nothing_between : (k : ℕ) (p : Place) → k ≢ x → waiting places row k ≡ Some p → size + p.due % 256 ≡ head
         → (y ≢ head → p.arming + 1 < number_by (waiting places row y)) → now < p.due
     nothing_between k p other is slot below =
-        let k_low : k < size + 256 = let e = item_low l.gathering k p is in omega arith in
+        let k_low : k < size + 256 = let e = item_low l.gathering.wheel k p is in omega arith in
         let same : head_by size k (waiting places row k) ≡ head_by size x (waiting places row x) = slot_item k p is ∙ (slot ∙ sym l.here) in
         let e = number_item k p is in
         by (nat_lt (number_by (waiting places row x)) (number_by (waiting places row k)))
@@ -207,7 +200,7 @@ module _ (places : List (Option Place)) (next previous : List ℕ) (start row : 
     item_off = (waits_there places row x q q_is).0
 
     pub item_here : (x < size) × (place_in places x ≡ Some q)
-    item_here = (item_low l.gathering x q q_is, (waits_there places row x q q_is).1)
+    item_here = (item_low l.gathering.wheel x q q_is, (waits_there places row x q q_is).1)
 
     nearer : steps_left places head y < steps_left places head x
     nearer = steps_fewer places head x y ne

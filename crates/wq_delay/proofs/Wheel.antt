@@ -1,6 +1,6 @@
 -- A wheel after an item was put behind the last of a slot, and after one was taken out.
-use Rattle.wq_delay.proofs.Common.{◌≡◌, ℕ, ◌+◌, ◌%◌, ◌<◌, ◌≤◌, ◌≢◌, List, length, get_or, set, slice_index, Some, None, Option, sym, refl, ap, ◌∙◌, mod-lt}
-use Rattle.wq_delay.proofs.Common.{arith, get_or-set_other, get_or-set_same, length-set, Place, head_by, number_by, IsWheel, place_at}
+use Rattle.wq_delay.proofs.Common.{◌≡◌, ℕ, ◌+◌, ◌%◌, ◌<◌, ◌≤◌, ◌≢◌, List, length, get_or, set, slice_index, Some, None, Option, sym, refl, ap, ◌∙◌, mod-lt, nat_tests}
+use Rattle.wq_delay.proofs.Common.{arith, get_or-set_other, get_or-set_same, length-set, Place, head_by, number_by, IsWheel, place_at, Bool, true, false, nat_lt}
 use Rattle.wq_delay.proofs.Rounds.{last_other, next_other, previous_other, rings_behind, rings_without}
 
 -- two writes into a row
@@ -18,6 +18,14 @@ two_writes xs i j x y = length-set (set xs i x) j y ∙ length-set xs i x
 
 pub slot_low : (size due : ℕ) → (size ≤ size + due % 256) × (size + due % 256 < size + 256)
 slot_low size due = let e = mod-lt due {m = 256} (omega arith) in (omega arith, omega arith)
+
+-- what waits is an item, and no slot
+pub item_low : {size : ℕ} {next previous : List ℕ} {w : ℕ → Option Place} → IsWheel size next previous w → (k : ℕ) (p : Place) → w k ≡ Some p → k < size
+item_low {size} wheel k p is = by (nat_lt k size) refl
+  where
+    by : (b : Bool) → nat_lt k size ≡ b → k < size
+    by true lt = grind (arith, nat_tests)
+    by false ge = let none = wheel.heads k (grind (arith, nat_tests)) in absurd (cc)
 
 -- an item's ring is that of its slot, or it is alone
 head_item : (size x k : ℕ) (o : Option Place) → k < size → head_by size x o ≡ k → x ≡ k
