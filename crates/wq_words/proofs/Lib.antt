@@ -6,6 +6,7 @@ pub mod Growing
 pub mod Written
 pub mod Running
 pub mod Lasts
+pub mod Appended
 pub mod Closed
 pub mod Drains
 pub mod Tells
@@ -25,6 +26,5 @@ pub mod ShutOwn
 pub mod DelayTable
 pub mod Counted
 pub mod Counting
-pub mod Appended
 pub mod Rest
 pub mod Valued
