@@ -1,9 +1,9 @@
 -- How a queue stands tells of each next event whether it may come, and what is left.
-use Rattle.wq_check.proofs.Common.{◌≡◌, ◌≢◌, ℕ, suc, ◌+◌, ◌-◌, ◌<◌, ◌≤◌, ◌==◌, ◌↔◌, Bool, true, false, List, ◌∷◌, length, drop, get_or, cond}
-use Rattle.wq_check.proofs.Common.{slice_get, Some, None, is_some, refl, sym, ap, ◌∙◌, arith, false≢true, eq-eqb, Event, Hold, Busy, Push, Back, Take}
+use Rattle.wq_check.proofs.Common.{◌≡◌, ◌≢◌, ℕ, suc, ◌+◌, ◌-◌, ◌<◌, ◌≤◌, ◌↔◌, Bool, true, false, List, ◌∷◌, length, drop, get_or}
+use Rattle.wq_check.proofs.Common.{slice_get, Some, None, is_some, refl, sym, ap, ◌∙◌, arith, false≢true, Event, Hold, Busy, Push, Back, Take}
 use Rattle.wq_check.proofs.Common.{Close, Drain, Resume, Begin, Chain, ChainBusy, Rest, number_count, accepted, begun, ended, running, IsRunning}
 use Rattle.wq_check.proofs.Common.{Keeper, Home, Sender, Listed, Owner, keeper, slice_get_append, prefix_length, in_order, queue_bit, kept, Idle}
-use Rattle.wq_check.proofs.Common.{unbegun, times, times-cons, slice_get-drop}
+use Rattle.wq_check.proofs.Common.{unbegun, slice_get-drop}
 use Rattle.std.proofs.Common.{not, IsTrue}
 use Rattle.std.proofs.Common.{Option, length-drop}
 use Rattle.std.specs.List.{Contains}
@@ -24,7 +24,7 @@ use Rattle.wq_check.specs.declared.cause.Cause.TheVariants as cause
 use Rattle.wq_check.specs.Left.{left}
 use Rattle.wq_check.specs.Causes.{HasCause}
 use Rattle.wq_check.proofs.Waits.{waits_bit}
-use Rattle.wq_words.proofs.Times.{times_from_Contains, Contains_from_times}
+use Rattle.wq_words.proofs.Times.{times_from_Contains, Contains_from_times, times-first}
 use Rattle.wq_check.proofs.Lists.{drop_some, never_empty}
 use Rattle.wq_words.proofs.Cases.{none_told}
 
@@ -62,13 +62,10 @@ bit_waiting (Sender s) some = absurd (omega (arith, some))
 bit_waiting Listed some = refl
 bit_waiting Owner some = refl
 
-first_counts : (k : ℕ) (xs : List ℕ) → 1 ≤ times k (k ∷ xs)
-first_counts k xs = let one : ◌≡◌ {A = ℕ} (cond (k == k) 1 0) 1 = ap (λ (b : Bool). cond b 1 0) (eq-eqb k k refl) in omega (arith, times-cons k k xs, one)
-
 first_waits : (h : List Event) (k : ℕ) → next h ≡ Some k → Contains (unbegun h) k
 first_waits h k is =
     let at : unbegun h ≡ k ∷ drop (suc (length (begun h))) (accepted h) = drop_some (accepted h) (length (begun h)) k is in
-    Contains_from_times k (unbegun h) (rw at (first_counts k (drop (suc (length (begun h))) (accepted h))))
+    Contains_from_times k (unbegun h) (rw at (omega (arith, times-first k (drop (suc (length (begun h))) (accepted h)))))
 
 -- an event against which the events before say something may not follow them
 pub refuses : (h : List Event) (e : Event) (why : Cause) → HasCause h e why → ¬ MayFollow h e

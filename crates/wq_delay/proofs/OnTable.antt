@@ -1,5 +1,5 @@
 -- Which items are on the table after an entry was placed, or an item taken off.
-use Rattle.wq_delay.proofs.Common.{◌≡◌, ℕ, Bool, true, false, not, ◌||◌, ◌&&◌, ◌≢◌, List, [], ◌∷◌, length, ◌==◌, refl, ap, ◌∙◌, eqb-true}
+use Rattle.wq_delay.proofs.Common.{◌≡◌, ℕ, Bool, true, false, not, ◌||◌, ◌&&◌, ◌≢◌, List, [], ◌∷◌, length, refl, ap, ◌∙◌}
 use Rattle.wq_delay.proofs.Common.{Entry, DelayTable, DelayState, Known, Holds, on_table, placed, without, on_table-placed, on_table-without}
 use Rattle.wq_delay.proofs.Held.{HoldsAll}
 use Rattle.wq_delay.specs.Delay.{PostsOne}
@@ -10,14 +10,7 @@ use Rattle.wq_words.specs.declared.answer.Posted.{Posted}
 use Rattle.wq_words.specs.declared.answer.Answer.TheVariants as answer
 use Rattle.wq_words.specs.declared.answer.Armed.TheVariants as armed
 use Rattle.wq_words.specs.declared.answer.Posted.TheVariants as posted
-use Rattle.std.proofs.lemmas.Bool.{eq-eqb}
-
-other_item : (j k : ℕ) → j ≢ k → (j == k) ≡ false
-other_item j k apart = by (j == k) refl
-  where
-    by : (b : Bool) → (j == k) ≡ b → (j == k) ≡ false
-    by true is = absurd (apart (eqb-true j k is))
-    by false is = is
+use Rattle.std.proofs.lemmas.Bool.{eq-eqb, ne_eqb}
 
 -- a placed item is on it, and every other is as it was
 pub placed_on : (e : Entry) (t u : List Entry) → u ≡ placed e t → on_table e.item u ≡ true
@@ -26,7 +19,7 @@ placed_on e t u is =
 
 pub placed_others : (j : ℕ) (e : Entry) (t u : List Entry) → u ≡ placed e t → j ≢ e.item → on_table j u ≡ on_table j t
 placed_others j e t u is apart =
-    ap (λ (z : List Entry). on_table j z) is ∙ (on_table-placed j e t ∙ ap (λ (z : Bool). z || on_table j t) (other_item j e.item apart))
+    ap (λ (z : List Entry). on_table j z) is ∙ (on_table-placed j e t ∙ ap (λ (z : Bool). z || on_table j t) (ne_eqb j e.item apart))
 
 -- an item taken off is not on it, and every other is as it was
 pub without_at : (k : ℕ) (t u : List Entry) → u ≡ without k t → on_table k u ≡ false
@@ -35,7 +28,7 @@ without_at k t u is =
 
 pub without_others : (j k : ℕ) (t u : List Entry) → u ≡ without k t → j ≢ k → on_table j u ≡ on_table j t
 without_others j k t u is apart =
-    ap (λ (z : List Entry). on_table j z) is ∙ (on_table-without j k t ∙ ap (λ (z : Bool). not z && on_table j t) (other_item j k apart))
+    ap (λ (z : List Entry). on_table j z) is ∙ (on_table-without j k t ∙ ap (λ (z : Bool). not z && on_table j t) (ne_eqb j k apart))
 
 -- a post takes no other item off
 pub posts_others : (j k tries : ℕ) (r : Posted) (old new : DelayState) → PostsOne k tries r old new → j ≢ k

@@ -18,6 +18,7 @@ use Rattle.wq_script.proofs.Alone.{all_ours}
 use Rattle.wq_script.proofs.Queueings.{busy_events, push_events, not_pending, is_pending, last_own}
 use Rattle.wq_words.proofs.Closed.{shut_from_open, open_from_shut, shut_quiet}
 use Rattle.wq_meaning.proofs.Drains.{no_take}
+use Rattle.wq_calls.proofs.Reading.{empty_from_next}
 
 -- what the worker added, where it was quiet
 pub exact : (wide : Layout) (n : ℕ) (h v z xs : List Event) (m : ℕ) → Quiet wide n h z → Adds n xs m h v → IsPrefix v z
@@ -68,13 +69,9 @@ taking_is h = each (next_of h) (shut h) refl
     each None true is = sym (no_take (nat_le (taken h) (length (begun h))))
     each (Some k) true is = sym (no_take (nat_le (taken h) (length (begun h))))
     each None false is =
-        let none : length (batch h) ≡ 0 = empty (batch h) is in
+        let none : length (batch h) ≡ 0 = ap (λ (ks : List ℕ). length ks) (empty_from_next h is) in
         let le : nat_le (taken h) (length (begun h)) ≡ true = le-leb (taken h) (length (begun h)) (omega (arith, none, batch_length h)) in
         sym (ap (λ (x : Bool). if (x && not false) then Take ∷ [] else []) le)
-      where
-        empty : (xs : List ℕ) → slice_get xs 0 ≡ None → length xs ≡ 0
-        empty [] is = refl
-        empty (x ∷ xs) is = absurd (cc)
     each (Some k) false is =
         let some : 0 < length (batch h) = slice_get_within (batch h) 0 k is in
         let gt : nat_le (taken h) (length (begun h)) ≡ false = lt-leb (taken h) (length (begun h)) (omega (arith, some, batch_length h)) in
