@@ -111,7 +111,7 @@ module _ {V : Type 0} where
       → new.hand ≡ old.hand
   same_hand at said step word old new s keeps = elim (cases_lt 0 old.queue.slots) [
     | inl lt ↦ keeps (s.moves lt)
-    | inr ge ↦ s.rests (omega (arith, ge))
+    | inr ge ↦ s.hand_same (omega (arith, ge))
   ]
 
   -- a load by an owner that has walked all moves none
@@ -232,7 +232,7 @@ module _ {V : Type 0} where
                       (learns_more 0 old new (learns_step 0 None Walk word old new s)) refl has).each,
                 );
               });
-          none = λ bare. let bare' : old.queue.slots ≡ 0 = subst (λ (z : TableId). z.slots ≡ 0) queue bare in s.rests bare' ∙ slots.none bare';
+          none = λ bare. let bare' : old.queue.slots ≡ 0 = subst (λ (z : TableId). z.slots ≡ 0) queue bare in s.hand_same bare' ∙ slots.none bare';
         }
 
   -- what begins leaves the slots of the others
@@ -253,5 +253,5 @@ module _ {V : Type 0} where
                   (ap length more ∙ length_push (begun p.seen) k) (accepted_on owner_seat (event.Begin k ∷ []) 0 p.seen q.seen grows)
                   (learns_more 0 old new (learns_step 0 None Begin word old new s)) later;
             });
-        none = λ bare. let bare' : old.queue.slots ≡ 0 = subst (λ (z : TableId). z.slots ≡ 0) queue bare in s.rests bare' ∙ slots.none bare';
+        none = λ bare. let bare' : old.queue.slots ≡ 0 = subst (λ (z : TableId). z.slots ≡ 0) queue bare in s.hand_same bare' ∙ slots.none bare';
       }

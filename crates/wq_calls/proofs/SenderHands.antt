@@ -31,23 +31,23 @@ saw_linked m c w k (Owns a b d) keeps is = absurd is
 module _ {V : Type 0} where
   -- the hand stays
   pub look_hand : (at word : ℕ) (said : Option V) (a b : ValueStanding V) → ValueSteps at said Look word a b → b.hand ≡ a.hand
-  look_hand at word said a b s = by_slots a.queue.slots (λ some. (s.moves some).1) s.rests
+  look_hand at word said a b s = by_slots a.queue.slots (λ some. (s.moves some).1) s.hand_same
 
   pub link_hand : (at k word : ℕ) (said : Option V) (a b : ValueStanding V) → ValueSteps at said (Link k) word a b → b.hand ≡ a.hand
-  link_hand at k word said a b s = by_slots a.queue.slots (λ some. (s.moves some).1) s.rests
+  link_hand at k word said a b s = by_slots a.queue.slots (λ some. (s.moves some).1) s.hand_same
 
   pub check_hand : (at k word : ℕ) (said : Option V) (a b : ValueStanding V) → ValueSteps at said (Check k) word a b → b.hand ≡ a.hand
-  check_hand at k word said a b s = by_slots a.queue.slots (λ some. (s.moves some).1) s.rests
+  check_hand at k word said a b s = by_slots a.queue.slots (λ some. (s.moves some).1) s.hand_same
 
   pub hold_slot : (at k word : ℕ) (said : Option V) (a b : ValueStanding V) → ValueSteps at said (Hold k) word a b → HoldsSlot k (word == 0) a b
   hold_slot at k word said a b s = go (word == 0) (λ some. (s.moves some).1)
     where
       go : (z : Bool) → (0 < a.queue.slots → b.hand ≡ (if z then (k, None) ∷ a.hand else a.hand)) → HoldsSlot k z a b
-      go true is = record { some = is; none = s.rests }
-      go false is = by_slots a.queue.slots is s.rests
+      go true is = record { some = is; none = s.hand_same }
+      go false is = by_slots a.queue.slots is s.hand_same
 
   pub back_leaves : (at k word : ℕ) (why : Why) (said : Option V) (a b : ValueStanding V) → ValueSteps at said (Back k why) word a b → LeavesHand a b
-  back_leaves at k word why said a b s = record { some = λ some. (s.moves some).1; none = s.rests }
+  back_leaves at k word why said a b s = record { some = λ some. (s.moves some).1; none = s.hand_same }
 
   module _ (at k w word : ℕ) (said : Option V) (a b : ValueStanding V) (linked : HasLinked w k (part_in at a).stage)
       (s : ValueSteps at said (Push k) word a b) where
@@ -62,7 +62,7 @@ module _ {V : Type 0} where
         (ap (λ (v : ℕ). word == v) saw ∙ is) (s.moves some)
 
     pub lost_hand : (word == w) ≡ false → b.hand ≡ a.hand
-    lost_hand is = by_slots a.queue.slots (λ some. (moved false is some).1) s.rests
+    lost_hand is = by_slots a.queue.slots (λ some. (moved false is some).1) s.hand_same
 
     won_brings : Wins s.steps.moves.makes.before.history k w (part_in at a) (part_in at b) → (word == w) ≡ true → 0 < a.queue.slots
         → Brings at k (link_word w == 0) (w == 0) (in_front a.hand) b
@@ -86,7 +86,7 @@ module _ {V : Type 0} where
         let p = part_in at a in let q = part_in at b in let h : List Event = s.steps.moves.makes.before.history in
         let wins : Wins h k w p q = subst (λ (z : Bool). MatchBool z (Wins h k w p q) (Loses w p q)) is
         (push_tells k w word p q linked s.steps.moves.makes) in (
-          record { some = λ some. (moved true is some).1; none = s.rests },
+          record { some = λ some. (moved true is some).1; none = s.hand_same },
           won_brings wins is,
         )
 

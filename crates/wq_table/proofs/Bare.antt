@@ -38,5 +38,5 @@ module _ {V : Type 0} where
         more = it.1;
         shelves = it.2;
         moved = λ some_slot. absurd (omega (arith, some_slot, none_there));
-        rests = λ n. refl;
+        hand_same = λ n. refl;
       }

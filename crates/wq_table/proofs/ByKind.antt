@@ -7,7 +7,7 @@ use Rattle.wq_words.proofs.Seen.{held_same}
 use Rattle.wq_core.specs.declared.step.Step.TheVariants.{Look, Walk}
 use Rattle.wq_core.specs.Words.{head_place, closed_word, draining_word, idle_word, head_at, item_of}
 use Rattle.wq_core.proofs.OwnerSteps.{cursor_is}
-use Rattle.wq_table.specs.Chair.{IsSender, HasSeen, HasLinked, IsOwner, IsRested, IsToWalk, IsToTurn, IsToBegin}
+use Rattle.wq_table.specs.Chair.{IsSender, HasSeen, HasLinked, IsOwner, HasWalked, IsToWalk, IsToTurn, IsToBegin}
 use Rattle.wq_table.proofs.Moves.{goes_still, shelves_take, shelves_close, shelves_drain, shelves_resume, shelves_rest, shelves_end, goes_hold}
 use Rattle.wq_table.proofs.Moves.{goes_push, goes_back, goes_begin, goes_chain}
 use Rattle.wq_table.proofs.Walked.{goes_walk, goes_walk_none}
@@ -47,37 +47,37 @@ module _ {V : Type 0} (c : ℕ) (layout : Layout) (seen : List Event) (words : L
       (omega (arith, number, deep, wide))
   by_back k slots why rest (Owns cursor walked batch) sender holds number deep = absurd sender
 
-  pub by_take : (slots : ℕ) (hand : Hand V) (stage : Stage) → IsRested stage → GoesBy slots (part c layout seen words stage) None Take hand
-  by_take slots hand (Sends q) rested = absurd rested
-  by_take slots hand (Owns cursor walked batch) rested = λ m brs homes sound fits wide sh.
+  pub by_take : (slots : ℕ) (hand : Hand V) (stage : Stage) → HasWalked stage → GoesBy slots (part c layout seen words stage) None Take hand
+  by_take slots hand (Sends q) still = absurd still
+  by_take slots hand (Owns cursor walked batch) still = λ m brs homes sound fits wide sh.
       goes_still m (part c layout seen words (Owns cursor walked batch)) brs homes sh Take _ _ hand
       (shelves_take m (part c layout seen words (Owns cursor walked batch)) brs homes sh (set m.words head_place busy_word) (item_of (head_at
       (head m)))) (refl, refl)
 
-  pub by_close : (slots : ℕ) (hand : Hand V) (stage : Stage) → IsRested stage → GoesBy slots (part c layout seen words stage) None Close hand
-  by_close slots hand (Sends q) rested = absurd rested
-  by_close slots hand (Owns cursor walked batch) rested = λ m brs homes sound fits wide sh.
+  pub by_close : (slots : ℕ) (hand : Hand V) (stage : Stage) → HasWalked stage → GoesBy slots (part c layout seen words stage) None Close hand
+  by_close slots hand (Sends q) still = absurd still
+  by_close slots hand (Owns cursor walked batch) still = λ m brs homes sound fits wide sh.
       goes_still m (part c layout seen words (Owns cursor walked batch)) brs homes sh Close _ _ hand
       (shelves_close m (part c layout seen words (Owns cursor walked batch)) brs homes sh (set m.words head_place closed_word) (item_of (head_at
       (head m)))) (refl, refl)
 
-  pub by_drain : (slots : ℕ) (hand : Hand V) (stage : Stage) → IsRested stage → GoesBy slots (part c layout seen words stage) None Drain hand
-  by_drain slots hand (Sends q) rested = absurd rested
-  by_drain slots hand (Owns cursor walked batch) rested = λ m brs homes sound fits wide sh.
+  pub by_drain : (slots : ℕ) (hand : Hand V) (stage : Stage) → HasWalked stage → GoesBy slots (part c layout seen words stage) None Drain hand
+  by_drain slots hand (Sends q) still = absurd still
+  by_drain slots hand (Owns cursor walked batch) still = λ m brs homes sound fits wide sh.
       goes_still m (part c layout seen words (Owns cursor walked batch)) brs homes sh Drain _ _ hand
       (shelves_drain m (part c layout seen words (Owns cursor walked batch)) brs homes sh (set m.words head_place draining_word) (item_of (head_at
       (head m)))) (refl, refl)
 
-  pub by_resume : (slots : ℕ) (hand : Hand V) (stage : Stage) → IsRested stage → GoesBy slots (part c layout seen words stage) None Resume hand
-  by_resume slots hand (Sends q) rested = absurd rested
-  by_resume slots hand (Owns cursor walked batch) rested = λ m brs homes sound fits wide sh.
+  pub by_resume : (slots : ℕ) (hand : Hand V) (stage : Stage) → HasWalked stage → GoesBy slots (part c layout seen words stage) None Resume hand
+  by_resume slots hand (Sends q) still = absurd still
+  by_resume slots hand (Owns cursor walked batch) still = λ m brs homes sound fits wide sh.
       goes_still m (part c layout seen words (Owns cursor walked batch)) brs homes sh Resume _ _ hand
       (shelves_resume m (part c layout seen words (Owns cursor walked batch)) brs homes sh (set m.words head_place busy_word) (item_of (head_at
       (head m)))) (refl, refl)
 
-  pub by_rest : (slots : ℕ) (hand : Hand V) (stage : Stage) → IsRested stage → GoesBy slots (part c layout seen words stage) None Rest hand
-  by_rest slots hand (Sends q) rested = absurd rested
-  by_rest slots hand (Owns cursor walked batch) rested = λ m brs homes sound fits wide sh.
+  pub by_rest : (slots : ℕ) (hand : Hand V) (stage : Stage) → HasWalked stage → GoesBy slots (part c layout seen words stage) None Rest hand
+  by_rest slots hand (Sends q) still = absurd still
+  by_rest slots hand (Owns cursor walked batch) still = λ m brs homes sound fits wide sh.
       goes_still m (part c layout seen words (Owns cursor walked batch)) brs homes sh Rest _ _ hand
       (shelves_rest m (part c layout seen words (Owns cursor walked batch)) brs homes sh (head m == busy_word) (set m.words head_place idle_word))
       (refl, refl)
@@ -119,11 +119,11 @@ module _ {V : Type 0} (c : ℕ) (layout : Layout) (seen : List Event) (words : L
       goes_still m (part c layout seen words (Owns cursor walked batch)) brs homes sh End _ _ hand
       (shelves_end m (part c layout seen words (Owns cursor walked batch)) brs homes sh (running m.history)) (refl, refl)
 
-  pub by_chain : (k slots : ℕ) (x : Option V) (hand : Hand V) (stage : Stage) → IsRested stage → Carries layout.items k x → k < layout.items
+  pub by_chain : (k slots : ℕ) (x : Option V) (hand : Hand V) (stage : Stage) → HasWalked stage → Carries layout.items k x → k < layout.items
       → slots ≡ number_count layout
       → GoesBy slots (part c layout seen words stage) x (Chain k) hand
-  by_chain k slots x hand (Sends q) rested fit item deep = absurd rested
-  by_chain k slots x hand (Owns cursor walked batch) rested fit item deep = λ m brs homes sound fits wide sh.
+  by_chain k slots x hand (Sends q) still fit item deep = absurd still
+  by_chain k slots x hand (Owns cursor walked batch) still fit item deep = λ m brs homes sound fits wide sh.
       let size : number_count layout ≡ number_count m.layout = ap number_count fits.layout_is in
       goes_chain m sound (part c layout seen words (Owns cursor walked batch)) brs homes sh k x hand (subst
       (λ l. Carries l.items k x) fits.layout_is fit) (omega (arith, item, size)) (omega (arith, item, deep, wide))

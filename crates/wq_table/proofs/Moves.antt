@@ -52,7 +52,7 @@ module _ {V : Type 0} where
       more = prefix_self brs;
       shelves = s;
       moved = λ some_slot. still;
-      rests = λ none_there. refl;
+      hand_same = λ none_there. refl;
     }
 
     pub shelves_take : (words : List ℕ) (cursor : Option ℕ) → Shelves (happened (record m { words = words; cursor = cursor }) Take) brs homes
@@ -115,7 +115,7 @@ module _ {V : Type 0} where
                   (gone m.history (Hold s k) k (Sender s) (gives_hold s k) (λ e. cc))
                   (λ place j late stands away. (home_apart k home place j late stands, away)) (omega arith));
               moved = λ some_slot. (refl, sym (ap (λ (q : Bool). if q then (k, None) ∷ c else c) e));
-              rests = λ none_there. absurd (omega (arith, low, none_there));
+              hand_same = λ none_there. absurd (omega (arith, low, none_there));
             }
         go false e = record {
           act = keeps;
@@ -124,7 +124,7 @@ module _ {V : Type 0} where
           more = prefix_self brs;
           shelves = quiet m (Busy s k) refl refl (λ j x is. is) (λ j x is. is) brs homes sh;
           moved = λ some_slot. (refl, sym (ap (λ (q : Bool). if q then (k, None) ∷ c else c) e));
-          rests = λ none_there. refl;
+          hand_same = λ none_there. refl;
         }
 
     -- the slot in front of the hand is that of k, with y in it
@@ -157,7 +157,7 @@ module _ {V : Type 0} where
               (gone m.history (Push p.seat k) k Listed (gives_push p.seat k) (λ e. cc))
               (λ place j late stands away. (held_apart p.seat k holds place j late stands, away)) (omega arith));
           moved = λ some_slot. rw e (refl, refl);
-          rests = λ none_there. absurd (omega (arith, low, none_there));
+          hand_same = λ none_there. absurd (omega (arith, low, none_there));
         }
         go false e = record {
           act = keeps;
@@ -167,7 +167,7 @@ module _ {V : Type 0} where
           shelves = sh;
           moved = λ some_slot. rw e
               (refl, refl);
-          rests = λ none_there. refl;
+          hand_same = λ none_there. refl;
         }
 
     -- an emptied slot is given back
@@ -190,7 +190,7 @@ module _ {V : Type 0} where
           (came m.history (Back s k why) k Home (gives_back s k why))
           (λ place j late stands away. (held_apart s k holds place j late stands, away)) (omega arith));
       moved = λ some_slot. (refl, refl);
-      rests = λ none_there. absurd (omega (arith, low, none_there));
+      hand_same = λ none_there. absurd (omega (arith, low, none_there));
     }
 
     -- an emptied slot is given back as its number begins
@@ -225,7 +225,7 @@ module _ {V : Type 0} where
               (other, omega (arith, away, times-cons j k ks, ap {B = ℕ} (λ (q : Bool). cond q 1 0) (ne_eqb k j (λ same. other (sym same))))))
               (omega arith));
           moved = λ some_slot. (refl, refl);
-          rests = λ none_there. absurd (omega (arith, low, none_there));
+          hand_same = λ none_there. absurd (omega (arith, low, none_there));
         }
 
     -- the slot of a chained item is taken, with nothing in it, and it is accepted with what is to be put there
@@ -260,7 +260,7 @@ module _ {V : Type 0} where
                   (λ place j late stands away. (home_apart k home place j late stands, omega (arith, away, count j)))
                   (λ zero. absurd (omega (arith, zero, count k, ap {B = ℕ} (λ (q : Bool). cond q 1 0) (eq-eqb k k refl)))) (omega arith));
               moved = λ some_slot. rw e (refl, refl);
-              rests = λ none_there. absurd (omega (arith, low, none_there));
+              hand_same = λ none_there. absurd (omega (arith, low, none_there));
             }
         go false e = record {
           act = keeps;
@@ -269,5 +269,5 @@ module _ {V : Type 0} where
           more = prefix_self brs;
           shelves = quiet m (ChainBusy k) refl refl (λ j x is. is) (λ j x is. is) brs homes sh;
           moved = λ some_slot. rw e (refl, refl);
-          rests = λ none_there. refl;
+          hand_same = λ none_there. refl;
         }

@@ -76,7 +76,7 @@ module _ {V : Type 0} where
         told = subst (AllTold step.brought') now step.told;
         right = all.2;
         moves = all.3;
-        rests = λ none_there. step.rests (many ∙ none_there) ∙ hand_is;
+        hand_same = λ none_there. step.hand_same (many ∙ none_there) ∙ hand_is;
       }
 
   module _ (s : Inside V) (it : ValueStanding V) (sits : ValueSits s) (is : value_standing s ≡ it) where

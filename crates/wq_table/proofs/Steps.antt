@@ -14,7 +14,7 @@ use Rattle.wq_core.specs.Words.{link_place, item_place, closed_word, draining_wo
 use Rattle.wq_core.specs.Machine.{HasSeenOpen, HasSeenCause}
 use Rattle.wq_table.proofs.Operations.{item_word-bit, loads, sets_bit, clears_bit, exchanges}
 use Rattle.wq_table.specs.Plays.{item_at}
-use Rattle.wq_table.specs.Chair.{IsSender, HasSeen, HasLinked, IsOwner, IsRested, HasNone, IsToTurn, IsToBegin}
+use Rattle.wq_table.specs.Chair.{IsSender, HasSeen, HasLinked, IsOwner, HasWalked, HasNone, IsToTurn, IsToBegin}
 use Rattle.wq_words.proofs.Running.{runs_some}
 use Rattle.wq_words.proofs.Seen.{held_same, closed_same, running_same}
 use Rattle.wq_words.proofs.ShutOwn.{shut_same}
@@ -125,15 +125,15 @@ module _ (c : ℕ) (layout : Layout) (seen : List Event) (words : List ℕ) wher
   }
   performs_back k why (Owns cursor walked batch) saw number holds = absurd saw
 
-  pub performs_take : (stage : Stage) → ¬ IsShut seen → IsRested stage → HasNone stage
+  pub performs_take : (stage : Stage) → ¬ IsShut seen → HasWalked stage → HasNone stage
       → Performs (part c layout seen words stage) Take 0 (λ n. busy_word) (λ n. n)
-  performs_take (Sends p) opens rested none = absurd rested
-  performs_take (Owns cursor walked batch) opens rested none = record {
+  performs_take (Sends p) opens still none = absurd still
+  performs_take (Owns cursor walked batch) opens still none = record {
     made = λ m sound fits. (
       (refl, tt),
       (
         (λ shut. opens (shut_same m.history seen (rw (← fits.keeps.0) (sym fits.mine)) shut)),
-        fits.keeps.1 ∙ rested,
+        fits.keeps.1 ∙ still,
         fits.keeps.3 ∙ none,
       ),
     );
@@ -141,38 +141,38 @@ module _ (c : ℕ) (layout : Layout) (seen : List Event) (words : List ℕ) wher
     finds = λ m sound fits. refl;
   }
 
-  pub performs_close : (stage : Stage) → ¬ IsClosed seen → IsRested stage → Performs (part c layout seen words stage) Close 0 (λ n. closed_word) (λ n. n)
-  performs_close (Sends p) unclosed rested = absurd rested
-  performs_close (Owns cursor walked batch) unclosed rested = record {
+  pub performs_close : (stage : Stage) → ¬ IsClosed seen → HasWalked stage → Performs (part c layout seen words stage) Close 0 (λ n. closed_word) (λ n. n)
+  performs_close (Sends p) unclosed still = absurd still
+  performs_close (Owns cursor walked batch) unclosed still = record {
     made = λ m sound fits. (
       (refl, tt),
       (
         (λ closed. unclosed (closed_same m.history seen (rw (← fits.keeps.0) (sym fits.mine)) closed)),
-        fits.keeps.1 ∙ rested,
+        fits.keeps.1 ∙ still,
       ),
     );
     writes = λ m sound fits. refl;
     finds = λ m sound fits. refl;
   }
 
-  pub performs_drain : (stage : Stage) → ¬ IsShut seen → IsRested stage → Performs (part c layout seen words stage) Drain 0 (λ n. draining_word) (λ n. n)
-  performs_drain (Sends p) opens rested = absurd rested
-  performs_drain (Owns cursor walked batch) opens rested = record {
+  pub performs_drain : (stage : Stage) → ¬ IsShut seen → HasWalked stage → Performs (part c layout seen words stage) Drain 0 (λ n. draining_word) (λ n. n)
+  performs_drain (Sends p) opens still = absurd still
+  performs_drain (Owns cursor walked batch) opens still = record {
     made = λ m sound fits. (
       (refl, tt),
       (
         (λ shut. opens (shut_same m.history seen (rw (← fits.keeps.0) (sym fits.mine)) shut)),
-        fits.keeps.1 ∙ rested,
+        fits.keeps.1 ∙ still,
       ),
     );
     writes = λ m sound fits. refl;
     finds = λ m sound fits. refl;
   }
 
-  pub performs_resume : (stage : Stage) → IsDraining seen → IsRested stage → HasNone stage → ¬ IsRunning seen
+  pub performs_resume : (stage : Stage) → IsDraining seen → HasWalked stage → HasNone stage → ¬ IsRunning seen
       → Performs (part c layout seen words stage) Resume 0 (λ n. busy_word) (λ n. n)
-  performs_resume (Sends p) drains rested none idle = absurd rested
-  performs_resume (Owns cursor walked batch) drains rested none idle = record {
+  performs_resume (Sends p) drains still none idle = absurd still
+  performs_resume (Owns cursor walked batch) drains still none idle = record {
     made = λ m sound fits. (
       (refl, tt),
       (
@@ -180,7 +180,7 @@ module _ (c : ℕ) (layout : Layout) (seen : List Event) (words : List ℕ) wher
           shut_same seen m.history (rw (← fits.keeps.0) fits.mine) drains.0,
           (λ closed. drains.1 (closed_same m.history seen (rw (← fits.keeps.0) (sym fits.mine)) closed)),
         ),
-        fits.keeps.1 ∙ rested,
+        fits.keeps.1 ∙ still,
         fits.keeps.3 ∙ none,
         (λ runs. idle (running_same m.history seen (rw (← fits.keeps.0) (sym fits.mine)) runs)),
       ),
@@ -203,12 +203,12 @@ module _ (c : ℕ) (layout : Layout) (seen : List Event) (words : List ℕ) wher
 
   pub performs_begin : (k : ℕ) (stage : Stage) → k < number_count layout → IsToBegin k stage → ¬ IsRunning seen
       → Performs (part c layout seen words stage) Begin (item_place (number_count layout) k) (λ n. bit_and n 0) (λ n. n)
-  performs_begin k (Sends p) number is rests = absurd is
-  performs_begin k (Owns cursor walked []) number is rests = absurd is
-  performs_begin k (Owns cursor walked (j ∷ js)) number is rests = record {
+  performs_begin k (Sends p) number is idle = absurd is
+  performs_begin k (Owns cursor walked []) number is idle = absurd is
+  performs_begin k (Owns cursor walked (j ∷ js)) number is idle = record {
     made = λ m sound fits. (
       (refl, tt),
-      (fits.keeps.1 ∙ is.0, (λ e. absurd (cc (e, fits.keeps.3))), λ runs. rests (running_same m.history seen (rw (← fits.keeps.0) (sym fits.mine)) runs)),
+      (fits.keeps.1 ∙ is.0, (λ e. absurd (cc (e, fits.keeps.3))), λ runs. idle (running_same m.history seen (rw (← fits.keeps.0) (sym fits.mine)) runs)),
     );
     writes = λ m sound fits. let front : m.batch ≡ k ∷ js = fits.keeps.3 ∙ ap (λ (i : ℕ). i ∷ js) is.1 in
         subst (λ (b : List ℕ). (after_begin m b).words ≡ set m.words (item_place (number_count layout) k)
@@ -230,15 +230,15 @@ module _ (c : ℕ) (layout : Layout) (seen : List Event) (words : List ℕ) wher
     finds = λ m sound fits. rw fits.layout_is refl;
   }
 
-  pub performs_chain : (k : ℕ) (stage : Stage) → k < layout.items → IsShut seen → IsRested stage → IsRunning seen
+  pub performs_chain : (k : ℕ) (stage : Stage) → k < layout.items → IsShut seen → HasWalked stage → IsRunning seen
       → Performs (part c layout seen words stage) (Chain k) (item_place (number_count layout) k) (λ n. bit_or n 1) (λ n. n)
-  performs_chain k (Sends p) item shut rested runs = absurd rested
-  performs_chain k (Owns cursor walked batch) item shut rested runs = record {
+  performs_chain k (Sends p) item shut still runs = absurd still
+  performs_chain k (Owns cursor walked batch) item shut still runs = record {
     made = λ m sound fits. (
       (refl, rw (← fits.layout_is) item),
       (
         shut_same seen m.history (rw (← fits.keeps.0) fits.mine) shut,
-        fits.keeps.1 ∙ rested,
+        fits.keeps.1 ∙ still,
         running_same seen m.history (rw (← fits.keeps.0) fits.mine) runs,
       ),
     );
@@ -247,15 +247,15 @@ module _ (c : ℕ) (layout : Layout) (seen : List Event) (words : List ℕ) wher
     finds = λ m sound fits. rw fits.layout_is refl;
   }
 
-  pub performs_rest : (stage : Stage) → ¬ IsShut seen → IsRested stage → HasNone stage → ¬ IsRunning seen
+  pub performs_rest : (stage : Stage) → ¬ IsShut seen → HasWalked stage → HasNone stage → ¬ IsRunning seen
       → Performs (part c layout seen words stage) Rest 0 (λ n. either (eqb n busy_word) idle_word n) (λ n. n)
-  performs_rest (Sends p) opens rested none idle = absurd rested
-  performs_rest (Owns cursor walked batch) opens rested none idle = record {
+  performs_rest (Sends p) opens still none idle = absurd still
+  performs_rest (Owns cursor walked batch) opens still none idle = record {
     made = λ m sound fits. (
       (refl, tt),
       (
         (λ shut. opens (shut_same m.history seen (rw (← fits.keeps.0) (sym fits.mine)) shut)),
-        fits.keeps.1 ∙ rested,
+        fits.keeps.1 ∙ still,
         fits.keeps.3 ∙ none,
         (λ runs. idle (running_same m.history seen (rw (← fits.keeps.0) (sym fits.mine)) runs)),
       ),

@@ -104,7 +104,7 @@ module _ {V : Type 0} where
                 });
             moves = λ some_slot. subst (λ (z : Machine × ℕ). MovesSlot said step p z.0 z.1 r.brought c it.brs' (carried_after c it.act))
                 (λ k. (sym done.before_is k, sym found k)) (it.moved (omega (arith, some_slot, deep)));
-            rests = λ none_there. it.rests (deep ∙ none_there);
+            hand_same = λ none_there. it.hand_same (deep ∙ none_there);
           },
         )
 

@@ -80,7 +80,7 @@ module _ {V : Type 0} where
                   omega (arith, away, times-append j m.batch (k ∷ m.walked), times-cons j k m.walked),
                 )) (omega arith);
             moved = λ some_slot. tells;
-            rests = λ none_there. absurd (omega (arith, low, none_there));
+            hand_same = λ none_there. absurd (omega (arith, low, none_there));
           }
           | false ↦ record {
             act = takes k y;
@@ -97,7 +97,7 @@ module _ {V : Type 0} where
                   omega (arith, away, times-cons j k m.walked),
                 )) (omega arith);
             moved = λ some_slot. tells;
-            rests = λ none_there. absurd (omega (arith, low, none_there));
+            hand_same = λ none_there. absurd (omega (arith, low, none_there));
           }
         ] in
         subst (λ (z : Option ℕ). Goes None step.Walk m (after_walk m z) p word brs homes c) (sym on) (go (link m k == 0))
@@ -113,5 +113,5 @@ module _ {V : Type 0} where
           more = prefix_self brs;
           shelves = sh;
           moved = λ some_slot. subst (λ st. Walks st m brs c brs c) (sym stage) (refl, refl);
-          rests = λ none_there. refl;
+          hand_same = λ none_there. refl;
         }

@@ -44,9 +44,9 @@ IsOwner (Sends p) = ⊥
 IsOwner (Owns cursor walked batch) = Unit {0}
 
 -- the owner has walked all that it took
-abbrev pub IsRested : Stage → Type 0
-IsRested (Sends p) = ⊥
-IsRested (Owns cursor walked batch) = cursor ≡ None
+abbrev pub HasWalked : Stage → Type 0
+HasWalked (Sends p) = ⊥
+HasWalked (Owns cursor walked batch) = cursor ≡ None
 
 -- the owner has nothing to begin
 abbrev pub HasNone : Stage → Type 0

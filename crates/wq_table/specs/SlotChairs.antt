@@ -48,7 +48,7 @@ pub record ValueSteps {V : Type 0} (at : ℕ) (said : Option V) (step : Step) (w
   pub told : AllTold brought' (new.first ∷ new.others)
   pub right : 0 < old.queue.slots → AreBrought (part_at at (standing_of new)).layout.items (accepted (part_at at (standing_of new)).seen) brought'
   pub moves : 0 < old.queue.slots → MovesSlot said step (part_at at (standing_of old)) steps.moves.makes.before word brought old.hand brought' new.hand
-  pub rests : old.queue.slots ≡ 0 → new.hand ≡ old.hand
+  pub hand_same : old.queue.slots ≡ 0 → new.hand ≡ old.hand
 
 -- the slot of k is in front of the hand, with y in it
 abbrev pub HasValue : {V : Type 0} → ℕ → Option V → Hand V → Type 0

@@ -65,7 +65,7 @@ pub record Goes {V : Type 0} (said : Option V) (step : Step) (m n : Machine) (p 
   pub more : IsPrefix brs brs'
   pub shelves : Shelves n brs' (homes_after homes c act)
   pub moved : 0 < length homes → MovesSlot said step p m word brs c brs' (carried_after c act)
-  pub rests : length homes ≡ 0 → carried_after c act ≡ c
+  pub hand_same : length homes ≡ 0 → carried_after c act ≡ c
 
 -- whatever machine the part is of
 abbrev pub GoesBy : {V : Type 0} → ℕ → Part → Option V → Step → Hand V → Type 0
@@ -92,7 +92,7 @@ pub record ValueMakes {V : Type 0} (slots at : ℕ) (said : Option V) (step : La
   pub right : 0 < slots → AreBrought (chosen at plain.part' plain.others').layout.items (accepted (chosen at plain.part' plain.others').seen) brought'
   pub moves : 0 < slots → MovesSlot said (step (chosen at plain.part plain.others).layout) (chosen at plain.part plain.others) plain.moves.makes.before word
       brought me.1 brought' me'.1
-  pub rests : slots ≡ 0 → me'.1 ≡ me.1
+  pub hand_same : slots ≡ 0 → me'.1 ≡ me.1
 
 abbrev pub Telling : Type 0 → Type 1
 Telling V = TableStep (Option V) → ValueSat V → ℕ → ValueSat V → Type 0

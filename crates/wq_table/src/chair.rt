@@ -8,7 +8,7 @@ ghost use Rattle.wq_words.specs.History.{Holds, IsClosed, IsShut, IsDraining, Is
 ghost use Rattle.wq_core.specs.Words.{word_count, closed_word, draining_word, TakesPushes, link_word};
 ghost use Rattle.wq_core.specs.declared.step.Step.TheVariants.{Hold, Look, Link, Push, Back, Check, Take, Close, Drain, Resume, Walk, Begin, End, Chain, Turn, Rest};
 ghost use Rattle.wq_table.specs.Plays.{Performs};
-ghost use Rattle.wq_table.specs.Chair.{IsSender, HasSeen, HasLinked, HasNone, IsOwner, IsToWalk, IsToTurn, IsToBegin, IsRested};
+ghost use Rattle.wq_table.specs.Chair.{IsSender, HasSeen, HasLinked, HasNone, IsOwner, IsToWalk, IsToTurn, IsToBegin, HasWalked};
 ghost use Rattle.wq_table.specs.SlotSteps.{GoesBy, in_front};
 ghost use Rattle.wq_table.specs.SlotChairs.{part_in, ValueSteps, HasSlot, HasValue, Exchanges, TurnsHand, ValueMeet, ValueMeetAll, ValueJoined};
 
@@ -233,7 +233,7 @@ impl<V> Chair<V> {
     /// The owner takes the whole list, leaves the mark of a queue at work, and learns the head as it was.
     pub fn take<P: Place>(&mut self) -> u64
         requires open { ¬ IsShut (part_in P.at self.old).seen }
-        requires rested { IsRested (part_in P.at self.old).stage }
+        requires walked { HasWalked (part_in P.at self.old).stage }
         requires empty { HasNone (part_in P.at self.old).stage }
         ensures step { ValueSteps P.at None Take result self.old self.new }
     {
@@ -243,7 +243,7 @@ impl<V> Chair<V> {
     /// The owner takes the whole list and leaves the closed mark.
     pub fn close<P: Place>(&mut self) -> u64
         requires unclosed { ¬ IsClosed (part_in P.at self.old).seen }
-        requires rested { IsRested (part_in P.at self.old).stage }
+        requires walked { HasWalked (part_in P.at self.old).stage }
         ensures step { ValueSteps P.at None Close result self.old self.new }
     {
         let word = Head::Closed.to_word();
@@ -253,7 +253,7 @@ impl<V> Chair<V> {
     /// The owner takes the whole list and leaves the draining mark.
     pub fn drain<P: Place>(&mut self) -> u64
         requires open { ¬ IsShut (part_in P.at self.old).seen }
-        requires rested { IsRested (part_in P.at self.old).stage }
+        requires walked { HasWalked (part_in P.at self.old).stage }
         ensures step { ValueSteps P.at None Drain result self.old self.new }
     {
         let word = Head::Draining.to_word();
@@ -263,7 +263,7 @@ impl<V> Chair<V> {
     /// The owner, with nothing that waits or runs, leaves the mark of a queue at work in place of the draining mark.
     pub fn resume<P: Place>(&mut self)
         requires draining { IsDraining (part_in P.at self.old).seen }
-        requires rested { IsRested (part_in P.at self.old).stage }
+        requires walked { HasWalked (part_in P.at self.old).stage }
         requires empty { HasNone (part_in P.at self.old).stage }
         requires idle { ¬ IsRunning (part_in P.at self.old).seen }
         ensures step { (word : ℕ) × ValueSteps P.at None Resume word self.old self.new }
@@ -322,7 +322,7 @@ impl<V> Chair<V> {
     fn chain_as<P: Place, G: Says<V>>(&mut self, number: u32) -> u64
         requires item { number < (part_in P.at self.old).layout.items }
         requires shut { IsShut (part_in P.at self.old).seen }
-        requires rested { IsRested (part_in P.at self.old).stage }
+        requires walked { HasWalked (part_in P.at self.old).stage }
         requires runs { IsRunning (part_in P.at self.old).seen }
         requires said { 0 < self.old.queue.slots → Carries (part_in P.at self.old).layout.items number G.said }
         ensures step { ValueSteps P.at G.said (Chain number) result self.old self.new }
@@ -337,7 +337,7 @@ impl<V> Chair<V> {
         requires none { self.old.queue.slots ≡ 0 }
         requires item { number < (part_in P.at self.old).layout.items }
         requires shut { IsShut (part_in P.at self.old).seen }
-        requires rested { IsRested (part_in P.at self.old).stage }
+        requires walked { HasWalked (part_in P.at self.old).stage }
         requires runs { IsRunning (part_in P.at self.old).seen }
         ensures step { ValueSteps P.at None (Chain number) result self.old self.new }
     {
@@ -349,7 +349,7 @@ impl<V> Chair<V> {
     pub fn chain_value<P: Place>(&mut self, number: u32, value: &V) -> u64
         requires item { number < (part_in P.at self.old).layout.items }
         requires shut { IsShut (part_in P.at self.old).seen }
-        requires rested { IsRested (part_in P.at self.old).stage }
+        requires walked { HasWalked (part_in P.at self.old).stage }
         requires runs { IsRunning (part_in P.at self.old).seen }
         ensures step { ValueSteps P.at (Some value.now) (Chain number) result self.old self.new }
     {
@@ -360,7 +360,7 @@ impl<V> Chair<V> {
     fn chain_said<P: Place, G: Says<V>>(&mut self, number: u32, value: &V) -> u64
         requires item { number < (part_in P.at self.old).layout.items }
         requires shut { IsShut (part_in P.at self.old).seen }
-        requires rested { IsRested (part_in P.at self.old).stage }
+        requires walked { HasWalked (part_in P.at self.old).stage }
         requires runs { IsRunning (part_in P.at self.old).seen }
         requires said { G.said ≡ Some value.now }
         ensures step { ValueSteps P.at (Some value.now) (Chain number) result self.old self.new }
@@ -373,7 +373,7 @@ impl<V> Chair<V> {
     /// learns the head as it was.
     pub fn rest<P: Place>(&mut self) -> u64
         requires open { ¬ IsShut (part_in P.at self.old).seen }
-        requires rested { IsRested (part_in P.at self.old).stage }
+        requires walked { HasWalked (part_in P.at self.old).stage }
         requires empty { HasNone (part_in P.at self.old).stage }
         requires idle { ¬ IsRunning (part_in P.at self.old).seen }
         ensures step { ValueSteps P.at None Rest result self.old self.new }

@@ -18,7 +18,7 @@ returns-then-chain-ne0 g c =
       owns = record {
         queue = owns;
         slots = seat_slots c.args.self.now (record c.args.self.now { chair = c.chain.new.self; counts = record s.counts { chain_busy = x } }) c.requires.owns
-            owns learns (c.chain.ensures.step.rests c.requires.bare) same (ChainBusy k ∷ []) 0 sees refl;
+            owns learns (c.chain.ensures.step.hand_same c.requires.bare) same (ChainBusy k ∷ []) 0 sees refl;
       };
       learns = learns;
       answer = sees;
@@ -52,7 +52,7 @@ returns g c = let s = owning c.args.self.now in let o = c.requires.owns.queue in
       owns = record {
         queue = chained_owns k w s q o steps clear t e.follows e.stands e.has_row refl refl refl x c.saturating_add-self-2.ensures refl;
         slots = bare_slots c.args.self.now.chair c.hang-self.new.chair (kept_batch s.chair.part.stage) _ (queue ∙ steps.queue_is) c.requires.bare
-            (e.hand ∙ c.chain.ensures.step.rests c.requires.bare) c.requires.owns.slots;
+            (e.hand ∙ c.chain.ensures.step.hand_same c.requires.bare) c.requires.owns.slots;
       };
       learns = step_or 0 _ _ _ _ _ _ c.chain.ensures.step e.learns;
       answer = (refl, refl, sees);

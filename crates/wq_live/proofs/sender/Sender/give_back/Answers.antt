@@ -24,7 +24,7 @@ invariant_of-self c = let s = (sending_in 0 c.self.inside.chair c.self.inside.se
     (sends_tells s (sending_in 0 new c.self.inside.sent) _ 0 c.self.invariant.sends refl refl told stage
     (counts_cancelled s.number 0 s.chair.part.seen new.first.part.seen s.counts c.self.invariant.sends.counts_are k
     (grows_tells s (sending_in 0 new c.self.inside.sent) (λ z. Back z k Cancelled ∷ []) 0 c.self.invariant.sends told)))
-    (learns_step 0 _ _ _ _ _ step) (step.rests c.self.invariant.bare)
+    (learns_step 0 _ _ _ _ _ step) (step.hand_same c.self.invariant.bare)
 
 pub returns : goal.returns
 returns c = let s = (sending_in 0 c.self.inside.chair c.self.inside.sent) in let k = c.args.item in

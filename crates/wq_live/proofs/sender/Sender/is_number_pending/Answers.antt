@@ -17,7 +17,7 @@ invariant_of-self c = let s = (sending_in 0 c.self.inside.chair c.self.inside.se
     (sends_tells s t [] 0 c.self.invariant.sends refl refl told (sender_made _ _ _ _ made c.self.invariant.sends.stage)
     (counts_none s.number 0 s.chair.part.seen t.chair.part.seen s.counts c.self.invariant.sends.counts_are
     (grows_tells s t (λ z. []) 0 c.self.invariant.sends told)))
-    (learns_step 0 _ _ _ _ _ c.check.ensures.step) (c.check.ensures.step.rests c.self.invariant.bare)
+    (learns_step 0 _ _ _ _ _ c.check.ensures.step) (c.check.ensures.step.hand_same c.self.invariant.bare)
 
 flip : (b : Bool) → not (not b) ≡ b
 flip true = refl

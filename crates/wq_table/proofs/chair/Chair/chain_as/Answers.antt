@@ -15,7 +15,7 @@ pub or-requires-clause-performs : goal.or-requires-clause-performs
 or-requires-clause-performs g c = let s = c.self.inside in let it = c.args.self.now in let sits = c.self.invariant in
     let view = c.self.view_is in let at = g.P.Place.at in let p = part_at at (standing_of it) in let k = c.args.number in
     placed p (λ (n : ℕ). step.Chain n) _ k _ _ (item_at_part s it sits view at _ k c.item_place-place.ensures.place)
-    (steps.performs_chain p.seat p.layout p.seen p.words k p.stage c.requires.item c.requires.shut c.requires.rested c.requires.runs)
+    (steps.performs_chain p.seat p.layout p.seen p.words k p.stage c.requires.item c.requires.shut c.requires.walked c.requires.runs)
 
 pub or-requires-clause-goes : goal.or-requires-clause-goes
 or-requires-clause-goes g c = let s = c.self.inside in let it = c.args.self.now in let sits = c.self.invariant in let view = c.self.view_is in
@@ -23,7 +23,7 @@ or-requires-clause-goes g c = let s = c.self.inside in let it = c.args.self.now 
     subst (λ (n : ℕ). GoesBy it.queue.slots p g.G.Says.said (step.Chain n) it.hand) (sym (number_placed _ k p.layout
     (item_at_part s it sits view at _ k c.item_place-place.ensures.place)))
     (by_either it.queue.slots p g.G.Says.said (step.Chain k) it.hand
-    (λ some_slot. by.by_chain p.seat p.layout p.seen p.words k it.queue.slots g.G.Says.said it.hand p.stage c.requires.rested
+    (λ some_slot. by.by_chain p.seat p.layout p.seen p.words k it.queue.slots g.G.Says.said it.hand p.stage c.requires.walked
     (c.requires.said some_slot) c.requires.item (deep_in s it sits view at some_slot)))
 
 pub returns : goal.returns
