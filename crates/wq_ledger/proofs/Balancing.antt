@@ -3,7 +3,7 @@ use Rattle.wq_live.specs.Known.{Known}
 use Rattle.wq_ledger.proofs.Common.{◌≡◌, ℕ, zero, suc, ◌+◌, Bool, true, false, cond, ◌≢◌, List, [], length, nat_lt, ◌==◌, All, sum_by, count_by, sym, refl, ap}
 use Rattle.wq_ledger.proofs.Common.{◌∙◌, subst, add-one, arith, ltb-false, lt-ltb, le-ltb, eqb-true, eqb-false, sum_by-cons, Layout, Event, ended, is_push}
 use Rattle.wq_ledger.proofs.Common.{IsLegal, is_queued_by, is_chain, is_chain_busy, accepted-count, capped, owner_counts, Totals, LedgerState, IsLedgerOf}
-use Rattle.wq_ledger.proofs.Common.{IsSettled, book_of, largest, AreWhole, AreOwnerWhole, ledgers_of, HasOne, HaveOne, met_total, SumsMet, Balances}
+use Rattle.wq_ledger.proofs.Common.{AreBookParts, book_of, largest, AreWhole, AreOwnerWhole, ledgers_of, HasOne, HaveOne, met_total, SumsMet, Balances}
 use Rattle.wq_ledger.proofs.Common.{with_sender, with_owner}
 use Rattle.wq_ledger.proofs.Pushes.{cond_next, is_queued_below, below_more, below_none, below_all, none_above, queued_made}
 use Rattle.wq_ledger.proofs.Summing.{total_next, total_skip, total_none, kept_first}
@@ -67,26 +67,26 @@ whole_is : (n : ℕ) → capped n ≢ largest → capped n ≡ n
 whole_is n less = omega arith
 
 -- the sums of a book whose ledgers do
-pub balances : (owner : Known) (own : LedgerState) (ledgers : List LedgerState) (met totals : Totals) → IsSettled owner own
+pub balances : (owner : Known) (own : LedgerState) (ledgers : List LedgerState) (met totals : Totals) → AreBookParts owner own
     → All (IsLedgerOf owner.seen) ledgers → SumsMet ledgers own.number owner.layout.senders met → AreWhole own.counts → AreOwnerWhole (owner_counts owner.seen)
     → totals ≡ with_owner (owner_counts owner.seen) (with_sender own.counts met) → Balances (book_of owner own) ledgers totals
-balances owner own ledgers met totals settled made sums whole owner_whole is =
+balances owner own ledgers met totals parts made sums whole owner_whole is =
     let h = owner.seen in
-    let mine = queued_made owner.layout h own settled.legal settled.made whole.0 in
-    let all = queued_all owner.layout h settled.legal ledgers made own.number sums.have_one in
+    let mine = queued_made owner.layout h own parts.legal parts.made whole.0 in
+    let all = queued_all owner.layout h parts.legal ledgers made own.number sums.have_one in
     let queued : totals.queued ≡ count_by is_push h = omega (arith, ap (λ (t : Totals). t.queued) is, sums.queued_is, mine, all) in
     let chained : totals.chained ≡ count_by is_chain h = ap (λ (t : Totals). t.chained) is ∙ whole_is (count_by is_chain h) owner_whole.0 in
     let executed : totals.executed ≡ length (ended h) = ap (λ (t : Totals). t.executed) is ∙ whole_is (length (ended h)) owner_whole.2 in
     let busy : (owner_counts h).chain_busy ≡ count_by is_chain_busy h = whole_is (count_by is_chain_busy h) owner_whole.1 in
     record {
       have_one = sums.have_one;
-      own_made = settled.made;
+      own_made = parts.made;
       own_whole = whole;
       owner_whole = owner_whole;
       queued_is = queued;
       chained_is = chained;
       executed_is = executed;
-      balance = omega (arith, queued, chained, executed, accepted-count h, settled.complete.1);
+      balance = omega (arith, queued, chained, executed, accepted-count h, parts.complete.1);
       pending_is = omega (arith, ap (λ (t : Totals). t.pending) is, sums.pending_is, busy);
       closed_is = omega (arith, ap (λ (t : Totals). t.closed) is, sums.closed_is);
       draining_is = omega (arith, ap (λ (t : Totals). t.draining) is, sums.draining_is);

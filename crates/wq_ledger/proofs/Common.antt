@@ -14,6 +14,6 @@ pub use Rattle.wq_words.proofs.Appended.{accepted-count, count_by-append, count_
 pub use Rattle.wq_calls.specs.declared.counts.SenderCounts.{SenderCounts}
 pub use Rattle.wq_live.specs.Counts.{owner_counts, sender_counts}
 pub use Rattle.wq_ledger.specs.declared.totals.Totals.{Totals}
-pub use Rattle.wq_ledger.specs.Book.{LedgerState, IsLedgerOf, IsSettled, BookState, book_of}
+pub use Rattle.wq_ledger.specs.Book.{LedgerState, IsLedgerOf, AreBookParts, BookState, book_of}
 pub use Rattle.wq_ledger.specs.Balance.{largest, AreWhole, AreOwnerWhole, ledgers_of, HasOne, HaveOne, met_total, SumsMet, Balances}
 pub use Rattle.wq_ledger.specs.Totals.{none, with_sender, with_owner, HasGrown}

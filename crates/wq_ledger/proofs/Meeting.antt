@@ -8,7 +8,7 @@ use Rattle.wq_live.specs.Known.{Known, Sees}
 use Rattle.wq_calls.proofs.Final.{final, all_run}
 use Rattle.wq_ledger.proofs.Common.{◌≡◌, ℕ, List, [], ◌++◌, sym, ap, ◌∙◌, subst, arith}
 use Rattle.wq_ledger.proofs.Common.{Layout, Event, ended, is_close, IsClosed, IsLegal, IsComplete, Grows}
-use Rattle.wq_ledger.proofs.Common.{count_by-append, sender_counts, LedgerState, IsLedgerOf, IsSettled}
+use Rattle.wq_ledger.proofs.Common.{count_by-append, sender_counts, LedgerState, IsLedgerOf, AreBookParts}
 
 pub still_closed : (v w : List Event) → IsClosed v → IsClosed (v ++ w)
 still_closed v w closed = omega (arith, count_by-append is_close v w, closed)
@@ -38,23 +38,23 @@ made_now h v s ledger same closed number counts = record {
   counts_are = counts ∙ (ap (sender_counts s) same ∙ ap (λ (z : ℕ). sender_counts z h) (sym number));
 }
 
--- what holds of a book's parts holds as it is made
-pub settled_now : (owner sender : Known) (own : LedgerState) → IsLegal owner.layout owner.seen → IsComplete owner.seen → sender.seen ≡ owner.seen
-    → own.number ≡ sender.number → own.counts ≡ sender_counts sender.number sender.seen → IsSettled owner own
-settled_now owner sender own legal done both number counts = record {
+-- they are a book's parts as it is made
+pub parts_now : (owner sender : Known) (own : LedgerState) → IsLegal owner.layout owner.seen → IsComplete owner.seen → sender.seen ≡ owner.seen
+    → own.number ≡ sender.number → own.counts ≡ sender_counts sender.number sender.seen → AreBookParts owner own
+parts_now owner sender own legal done both number counts = record {
   legal = legal;
   complete = done;
   made = made_now owner.seen sender.seen sender.number own both done.0 number counts;
 }
 
 -- and after each meeting
-pub settled_still : (owner new : Known) (own : LedgerState) → Sees [] 0 owner new → IsSettled owner own → IsSettled new own
-settled_still owner new own sees settled = record {
+pub parts_still : (owner new : Known) (own : LedgerState) → Sees [] 0 owner new → AreBookParts owner own → AreBookParts new own
+parts_still owner new own sees parts = record {
   legal = sees.legal;
-  complete = complete_still new.layout owner.number 0 owner.seen new.seen sees.grows sees.legal settled.complete;
-  made = made_still owner.number 0 owner.seen new.seen own sees.grows settled.made;
+  complete = complete_still new.layout owner.number 0 owner.seen new.seen sees.grows sees.legal parts.complete;
+  made = made_still owner.number 0 owner.seen new.seen own sees.grows parts.made;
 }
 
-pub settled_run : (owner : Known) (own : LedgerState) → IsSettled owner own
+pub parts_run : (owner : Known) (own : LedgerState) → AreBookParts owner own
     → (ended owner.seen ≡ begun owner.seen) × (begun owner.seen ≡ accepted owner.seen)
-settled_run owner own settled = all_run owner.layout owner.seen settled.legal (closed_shuts owner.seen settled.complete.0, settled.complete.1)
+parts_run owner own parts = all_run owner.layout owner.seen parts.legal (closed_shuts owner.seen parts.complete.0, parts.complete.1)

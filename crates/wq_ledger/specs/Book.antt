@@ -33,8 +33,8 @@ pub record IsLedgerOf (h : List Event) (ledger : LedgerState) : Type 0 where
   pub closed : IsClosed met
   pub counts_are : ledger.counts ≡ sender_counts ledger.number met
 
--- what holds of a book's parts
-pub record IsSettled (owner : Known) (own : LedgerState) : Type 0 where
+-- the parts of a book: an owner that has run to its end, and a ledger of its history
+pub record AreBookParts (owner : Known) (own : LedgerState) : Type 0 where
   pub legal : IsLegal owner.layout owner.seen
   pub complete : IsComplete owner.seen
   pub made : IsLedgerOf owner.seen own

@@ -2,7 +2,7 @@
 ghost use Rattle.std.specs.Prelude.{◌≡◌, ◌↔◌, ◌*◌, ◌<◌, [], ◌∷◌, All, IsTrue, MatchResult};
 ghost use Rattle.wq_live.specs.Known.{Known};
 ghost use Rattle.wq_live.specs.Counts.{owner_counts};
-ghost use Rattle.wq_ledger.specs.Book.{book_of, IsLedgerOf, IsSettled};
+ghost use Rattle.wq_ledger.specs.Book.{book_of, IsLedgerOf, AreBookParts};
 ghost use Rattle.wq_ledger.specs.Balance.{AreWhole, AreOwnerWhole, ledgers_of, IsFault, SumsMet, FaultsBelow, Balances, IsUnbalanced};
 
 use crate::book::Ledger;
@@ -92,7 +92,7 @@ pub fn sum_all(
     senders: u32,
     ledgers: &[Ledger],
 ) -> Result<Totals, Unbalanced>
-    ensures { (seat : Known) → owner ≡ owner_counts seat.seen → senders ≡ seat.layout.senders → IsSettled seat own
+    ensures { (seat : Known) → owner ≡ owner_counts seat.seen → senders ≡ seat.layout.senders → AreBookParts seat own
         → All (IsLedgerOf seat.seen) ledgers.now
         → MatchResult result (Balances (book_of seat own) ledgers.now) (IsUnbalanced (book_of seat own) ledgers.now) }
 {

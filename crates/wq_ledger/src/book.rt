@@ -7,7 +7,7 @@ ghost use Rattle.wq_words.specs.Seen.{owner_seat, Grows, own};
 ghost use Rattle.wq_live.specs.Known.{Sees};
 ghost use Rattle.wq_live.specs.Counts.{sender_counts};
 ghost use Rattle.wq_live.specs.Laws.{IsStillEnd};
-ghost use Rattle.wq_ledger.specs.Book.{IsLedgerOf, IsSettled};
+ghost use Rattle.wq_ledger.specs.Book.{IsLedgerOf, AreBookParts};
 ghost use Rattle.wq_ledger.specs.Balance.{Balances, IsUnbalanced};
 
 use crate::balance::{Unbalanced, sum_all};
@@ -65,13 +65,13 @@ pub struct Book {
 }
 
 impl Model for Book {
-    ghost use Rattle.wq_ledger.specs.Book.{BookState, book_of, IsSettled};
+    ghost use Rattle.wq_ledger.specs.Book.{BookState, book_of, AreBookParts};
 
     ghost Value = { BookState };
 
     ghost view = { λ b. book_of b.owner b.own };
 
-    ghost invariant = { λ b. IsSettled b.owner b.own };
+    ghost invariant = { λ b. AreBookParts b.owner b.own };
 }
 
 impl Book {

@@ -26,14 +26,14 @@ pub struct ValueBook<V: Drop> {
 }
 
 impl<V: Drop> Model for ValueBook<V> {
-    ghost use Rattle.wq_ledger.specs.Book.{book_of, IsSettled};
+    ghost use Rattle.wq_ledger.specs.Book.{book_of, AreBookParts};
     ghost use Rattle.wq_value_worker.specs.ValueBook.{ValueBookState};
 
     ghost Value = { ValueBookState V };
 
     ghost view = { λ b. record { book = book_of b.owner.known b.own; brought = b.owner.brought } };
 
-    ghost invariant = { λ b. IsSettled b.owner.known b.own };
+    ghost invariant = { λ b. AreBookParts b.owner.known b.own };
 }
 
 impl<V: Drop> ValueBook<V> {

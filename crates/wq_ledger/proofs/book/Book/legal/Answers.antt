@@ -2,7 +2,7 @@ use Rattle.wq_words.specs.Headline.{KeepsHeadline}
 use Rattle.wq_words.proofs.Headlines.{keeps_headline}
 use Rattle.wq_ledger.proofs.Common.{◌≡◌, subst, IsLegal, IsComplete, IsLedgerOf, BookState}
 use Rattle.wq_words.specs.History.{accepted, begun, ended}
-use Rattle.wq_ledger.proofs.Meeting.{settled_run}
+use Rattle.wq_ledger.proofs.Meeting.{parts_run}
 use Rattle.wq_ledger.proofs.book.Book.legal.Goals as goal
 
 pub returns-clause-legal : goal.returns-clause-legal
@@ -20,8 +20,8 @@ returns-clause-own_ledger c = subst (λ (z : BookState). IsLedgerOf z.seen z.own
 
 pub returns-clause-all_began : goal.returns-clause-all_began
 returns-clause-all_began c =
-    let i = c.self.inside in subst (λ (z : BookState). begun z.seen ≡ accepted z.seen) c.self.view_is (settled_run i.owner i.own c.self.invariant).1
+    let i = c.self.inside in subst (λ (z : BookState). begun z.seen ≡ accepted z.seen) c.self.view_is (parts_run i.owner i.own c.self.invariant).1
 
 pub returns-clause-all_ended : goal.returns-clause-all_ended
 returns-clause-all_ended c =
-    let i = c.self.inside in subst (λ (z : BookState). ended z.seen ≡ begun z.seen) c.self.view_is (settled_run i.owner i.own c.self.invariant).0
+    let i = c.self.inside in subst (λ (z : BookState). ended z.seen ≡ begun z.seen) c.self.view_is (parts_run i.owner i.own c.self.invariant).0

@@ -1,11 +1,11 @@
 use Rattle.wq_live.specs.Laws.{IsStillEnd}
 use Rattle.wq_ledger.proofs.Common.{ℕ, [], sym, ap, ◌∙◌, subst, Grows, owner_seat, IsLedgerOf, BookState}
-use Rattle.wq_ledger.proofs.Meeting.{settled_still, made_still, made_now}
+use Rattle.wq_ledger.proofs.Meeting.{parts_still, made_still, made_now}
 use Rattle.wq_ledger.proofs.book.Book.meet.Goals as goal
 
 pub invariant_of-self : goal.invariant_of-self
 invariant_of-self c =
-    let i = c.self.inside in settled_still i.owner c.meet_owner.new.owner i.own c.meet_owner.ensures.that c.self.invariant
+    let i = c.self.inside in parts_still i.owner c.meet_owner.new.owner i.own c.meet_owner.ensures.that c.self.invariant
 
 pub returns-clause-made : goal.returns-clause-made
 returns-clause-made c =

@@ -4,7 +4,7 @@ use Rattle.wq_words.specs.Valued.{AreBrought, IsLegalWith, with_values}
 use Rattle.wq_words.specs.History.{accepted, begun, ended}
 use Rattle.wq_value_worker.specs.ValueBook.{ValueBookState}
 use Rattle.wq_ledger.proofs.Common.{◌≡◌, subst, IsLegal, IsComplete, IsLedgerOf}
-use Rattle.wq_ledger.proofs.Meeting.{settled_run}
+use Rattle.wq_ledger.proofs.Meeting.{parts_run}
 use Rattle.wq_words.proofs.Valued.{are_brought}
 use Rattle.wq_value_worker.proofs.value_book.ValueBook.legal.Goals as goal
 
@@ -24,13 +24,13 @@ pub returns-clause-all_began : goal.returns-clause-all_began
 returns-clause-all_began g c =
     let i = c.self.inside in
     subst (λ (z : ValueBookState g.row.V.Denot). begun z.book.seen ≡ accepted z.book.seen) c.self.view_is
-    (settled_run i.owner.known i.own c.self.invariant).1
+    (parts_run i.owner.known i.own c.self.invariant).1
 
 pub returns-clause-all_ended : goal.returns-clause-all_ended
 returns-clause-all_ended g c =
     let i = c.self.inside in
     subst (λ (z : ValueBookState g.row.V.Denot). ended z.book.seen ≡ begun z.book.seen) c.self.view_is
-    (settled_run i.owner.known i.own c.self.invariant).0
+    (parts_run i.owner.known i.own c.self.invariant).0
 
 pub returns-clause-values : goal.returns-clause-values
 returns-clause-values g c =

@@ -2,13 +2,13 @@ use Rattle.wq_values.specs.Laws.{IsStillEnd}
 use Rattle.wq_values.specs.OwnBrought.{own_brought}
 use Rattle.wq_value_worker.specs.ValueBook.{ValueBookState}
 use Rattle.wq_ledger.proofs.Common.{ℕ, [], sym, ap, ◌∙◌, subst, Grows, owner_seat, IsLedgerOf}
-use Rattle.wq_ledger.proofs.Meeting.{settled_still, made_still, made_now}
+use Rattle.wq_ledger.proofs.Meeting.{parts_still, made_still, made_now}
 use Rattle.wq_value_worker.proofs.ValueBooks.{brought_still}
 use Rattle.wq_value_worker.proofs.value_book.ValueBook.meet.Goals as goal
 
 pub invariant_of-self : goal.invariant_of-self
 invariant_of-self g c =
-    let i = c.self.inside in settled_still i.owner.known c.meet_owner.new.owner.known i.own c.meet_owner.ensures.that c.self.invariant
+    let i = c.self.inside in parts_still i.owner.known c.meet_owner.new.owner.known i.own c.meet_owner.ensures.that c.self.invariant
 
 pub returns : goal.returns
 returns g c =
@@ -16,7 +16,7 @@ returns g c =
     let m = c.meet_owner.ensures in let is = c.self.view_is in let done = c.self.invariant.complete in
     let number = c.of.ensures.number ∙ c.number.ensures.seat in let counts = c.of.ensures.counts ∙ c.counts.ensures.counted in record {
       made = made_now q.known.seen u.seen u.number c.of.result (sym m.both)
-          (settled_still o.known q.known i.own m.that c.self.invariant).complete.0 number counts;
+          (parts_still o.known q.known i.own m.that c.self.invariant).complete.0 number counts;
       number = number ∙ m.this.same.number_is;
       counts = counts;
       kept = λ ledger made. made_still o.known.number 0 o.known.seen q.known.seen ledger m.that.grows
