@@ -3,14 +3,14 @@ use Rattle.std.specs.Prelude.{ℕ, Bool, ◌==◌, ◌||◌, List, [], ◌∷◌
 use Rattle.wq_words.specs.declared.event.Event.{Event}
 use Rattle.wq_words.specs.declared.event.Event.TheVariants.{Hold, Push, Back}
 use Rattle.wq_words.specs.declared.event.Why.TheVariants as why
-use Rattle.wq_words.specs.History.{pending, closed}
+use Rattle.wq_words.specs.History.{pending, closed, draining}
 use Rattle.wq_words.specs.declared.answer.Armed.{Armed}
 use Rattle.wq_words.specs.declared.answer.Armed.TheVariants as armed
 use Rattle.wq_words.specs.declared.answer.Modified.{Modified}
 use Rattle.wq_words.specs.declared.answer.Modified.TheVariants as modified
 use Rattle.wq_words.specs.Armed.{armed_of, modified_of}
 use Rattle.wq_words.specs.DelayTable.{DelayTable, on_table, due_part, items, is_too_far, table_with, table_without, table_at}
-use Rattle.wq_meaning.specs.Queueing.{draining, queue_events, queue_answer}
+use Rattle.wq_meaning.specs.Queueing.{queue_events, queue_answer}
 
 -- an item that is held and posted goes on the list, or back where the queue is closed
 abbrev pub post_event : ℕ → List Event → ℕ → Event

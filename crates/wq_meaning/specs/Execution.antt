@@ -4,8 +4,8 @@ use Rattle.std.specs.Prelude.{if◌then◌else◌}
 use Rattle.arrayvec.specs.ArrayVec.{ArrayVec}
 use Rattle.wq_words.specs.declared.event.Event.{Event}
 use Rattle.wq_words.specs.declared.event.Event.TheVariants.{Take, Drain, Resume, Begin, End}
-use Rattle.wq_words.specs.History.{accepted, begun, ended, next, shut, taken}
-use Rattle.wq_meaning.specs.Queueing.{draining, queue_events, chain_events}
+use Rattle.wq_words.specs.History.{accepted, begun, ended, next, shut, draining, taken}
+use Rattle.wq_meaning.specs.Queueing.{queue_events, chain_events}
 
 -- what each item's function answers: the items to be queued next. No other number's function answers any
 abbrev pub no_follow : ArrayVec ℕ

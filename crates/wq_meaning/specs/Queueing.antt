@@ -1,16 +1,12 @@
 -- A queueing, a chaining and a close: the events that each adds to a history, and what it answers by the events before it.
-use Rattle.std.specs.Prelude.{ℕ, Bool, not, ◌&&◌, List, [], ◌∷◌, Option, Some, None, if◌then◌else◌}
+use Rattle.std.specs.Prelude.{ℕ, List, [], ◌∷◌, Option, Some, None, if◌then◌else◌}
 use Rattle.wq_words.specs.declared.event.Event.{Event}
 use Rattle.wq_words.specs.declared.event.Event.TheVariants.{Hold, Busy, Push, Back, Close, Chain, ChainBusy}
 use Rattle.wq_words.specs.declared.event.Why.TheVariants as why
-use Rattle.wq_words.specs.History.{pending, closed, shut, fresh, first}
+use Rattle.wq_words.specs.History.{pending, closed, draining, fresh, first}
 use Rattle.wq_words.specs.Rest.{wakes}
 use Rattle.wq_words.specs.declared.answer.Answer.{Answer}
 use Rattle.wq_words.specs.declared.answer.Answer.TheVariants as answer
-
--- the queue drains: it takes no push now, and is not closed
-abbrev pub draining : List Event → Bool
-draining h = shut h && not (closed h)
 
 -- a queueing of number k by sender s
 abbrev pub queue_events : ℕ → ℕ → List Event → List Event

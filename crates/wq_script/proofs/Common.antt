@@ -17,7 +17,7 @@ pub use Rattle.wq_words.specs.Armed.{armed_of, modified_of}
 pub use Rattle.wq_words.specs.Counting.{is_busy, is_refusal, is_queued_by, is_pending_by, is_closed_by, is_draining_by, is_chain, is_chain_busy}
 pub use Rattle.wq_words.specs.DelayTable.{DelayTable, on_table, is_too_far, Entry, items, due_part, table_without, table_at}
 pub use Rattle.wq_words.specs.History.{is_cut, IsClosed, IsShut, IsDraining}
-pub use Rattle.wq_words.specs.History.{pending, closed, shut, first, is_push, fresh, accepted, begun, next, taken, is_close, Holds, ended, IsRunning}
+pub use Rattle.wq_words.specs.History.{pending, closed, shut, draining, first, is_push, fresh, accepted, begun, next, taken, is_close, Holds, ended, IsRunning}
 pub use Rattle.wq_words.specs.Legal.{IsLegal, HasSeat}
 pub use Rattle.wq_words.specs.Numbers.{barrier_number, stop_number}
 pub use Rattle.wq_words.specs.Rest.{wakes}
@@ -48,7 +48,7 @@ pub use Rattle.wq_meaning.specs.Commands.{ScriptState, opening_state, state_afte
 pub use Rattle.wq_meaning.specs.Execution.{follow_of, take_events, follow_events, after_follow, after_run, after_execution, no_follow, after_executions}
 pub use Rattle.wq_meaning.specs.Execution.{ended_since, go_on, ends_at, left_in, begin_drain, end_drain}
 pub use Rattle.wq_meaning.specs.Names.{row_text, advance_word, left_text}
-pub use Rattle.wq_meaning.specs.Queueing.{draining, queue_events, queue_answer, close_events, close_answer, chain_events}
+pub use Rattle.wq_meaning.specs.Queueing.{queue_events, queue_answer, close_events, close_answer, chain_events}
 pub use Rattle.wq_meaning.specs.Report.{line, report_text}
 pub use Rattle.wq_meaning.proofs.Answers.{arm_given, queue_uncontended, modify_given}
 pub use Rattle.wq_meaning.proofs.Meanings.{wrote, advanced, advance_back, advance_on, drained, drain_open, drain_closed}

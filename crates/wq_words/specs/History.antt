@@ -1,5 +1,5 @@
 -- What a history of events says, oldest event first: lists and counts of its events.
-use Rattle.std.specs.Prelude.{ℕ, ◌<◌, ◌+◌, ◌==◌, Bool, true, false, ◌&&◌, List, length, Option, Some, None, slice_get, count_by, filter_map, nat_lt}
+use Rattle.std.specs.Prelude.{ℕ, ◌<◌, ◌+◌, ◌==◌, Bool, true, false, not, ◌&&◌, List, length, Option, Some, None, slice_get, count_by, filter_map, nat_lt}
 use Rattle.std.specs.Prelude.{if◌then◌else◌}
 use Rattle.std.specs.List.{after_last, before_last}
 use Rattle.wq_words.specs.declared.event.Event.{Event}
@@ -104,6 +104,9 @@ shut h = nat_lt 0 (shuts h)
 -- the queue drains: it takes no push now, and is not closed
 abbrev pub IsDraining : List Event → Type 0
 IsDraining h = IsShut h × (¬ IsClosed h)
+
+abbrev pub draining : List Event → Bool
+draining h = shut h && not (closed h)
 
 -- some drain has begun, ended or not: there is a Drain
 abbrev pub HasDrained : List Event → Type 0
