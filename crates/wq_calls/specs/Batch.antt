@@ -1,7 +1,7 @@
 -- The owner's batch: what was taken and has not begun, oldest first.
 use Rattle.std.specs.Prelude.{◌≡◌, ℕ, List, [], ◌∷◌, ◌++◌, length, take, drop, Option, slice_get}
 use Rattle.wq_words.specs.declared.event.Event.{Event}
-use Rattle.wq_words.specs.History.{accepted, begun, taken, fresh}
+use Rattle.wq_words.specs.History.{accepted, begun, unbegun, taken, fresh}
 use Rattle.wq_words.specs.Seen.{owner_seat, own}
 
 -- the part of what was accepted from the place after all that has begun up to the place after all that was taken
@@ -20,4 +20,4 @@ pub record TakesAll (e : Event) (count : ℕ) (h : List Event) : Type 0 where
   pub is : h ≡ before ++ e ∷ after
   pub last : own owner_seat after ≡ []
   pub count_is : count ≡ fresh before
-  pub batch_is : batch h ≡ drop (length (begun before)) (accepted before)
+  pub batch_is : batch h ≡ unbegun before

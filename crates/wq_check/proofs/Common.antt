@@ -11,14 +11,13 @@ pub use Rattle.wq_words.proofs.Lists.{all_alike, slice_get-drop}
 pub use Rattle.wq_words.proofs.Order.{in_order}
 pub use Rattle.wq_words.proofs.Prefixes.{prefix_length}
 pub use Rattle.wq_words.proofs.Times.{times, times-append, times-cons}
-pub use Rattle.wq_words.specs.History.{IsRunning, accepted, begun, ended, running}
+pub use Rattle.wq_words.specs.History.{IsRunning, accepted, begun, ended, running, unbegun}
 pub use Rattle.wq_words.specs.Keeper.{Home, Keeper, Listed, Owner, Sender, keeper}
 pub use Rattle.wq_words.specs.Legal.{IsLegal}
 pub use Rattle.wq_words.specs.Numbers.{number_count}
 pub use Rattle.wq_words.specs.declared.event.Event.{Event}
 pub use Rattle.wq_words.specs.declared.event.Event.TheVariants.{Back, Begin, Busy, Chain, ChainBusy, Close, Drain, Hold, Push, Rest, Resume, Take}
 pub use Rattle.wq_words.specs.declared.layout.Layout.{Layout}
-pub use Rattle.wq_check.specs.Left.{unbegun}
 pub use Rattle.wq_check.specs.Trace.{IsLegalTrace, MayShow, number_of, queued, returned, started, surely_unbegun, unseen}
 pub use Rattle.wq_check.specs.declared.mark.Mark.{Mark}
 pub use Rattle.wq_check.specs.declared.mark.Mark.TheVariants.{End, Queue, Start}

@@ -5,14 +5,13 @@ use Rattle.wq_words.specs.declared.history.HistoryFault.TheVariants as fault
 use Rattle.wq_words.specs.declared.event.Why.TheVariants as reason
 use Rattle.wq_words.specs.declared.event.Event.{Event}
 use Rattle.wq_words.specs.declared.event.Event.TheVariants.{Hold, Busy, Push, Back, Take, Close, Drain, Resume, Begin, End, Chain, ChainBusy, Rest}
-use Rattle.wq_words.specs.History.{accepted, ended, running, next, IsRunning, IsPending, Holds, IsClosed, IsShut, IsDraining, HasDrained}
+use Rattle.wq_words.specs.History.{accepted, ended, running, next, unbegun, IsRunning, IsPending, Holds, IsClosed, IsShut, IsDraining, HasDrained}
 use Rattle.wq_words.specs.Legal.{HasFault}
 use Rattle.wq_check.specs.declared.cause.Cause.{Cause}
 use Rattle.wq_check.specs.declared.cause.Cause.TheVariants.{Pending, Idle, NotHeld, Closed, Draining, NotDraining, NeverDrained, Open, Runs, NothingRuns}
 use Rattle.wq_check.specs.declared.cause.Cause.TheVariants.{NotWaiting, Next, NotEnded}
 use Rattle.wq_check.specs.declared.cause.EventError.{EventError}
 use Rattle.wq_check.specs.declared.cause.EventError.TheVariants.{NoSeat, NoItem, NotAllowed}
-use Rattle.wq_check.specs.Left.{unbegun}
 
 -- the first part of the event's line in `MayFollow` that fails after the events h
 abbrev pub HasCause : List Event → Event → Cause → Type 0

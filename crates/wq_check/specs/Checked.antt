@@ -3,14 +3,13 @@ use Rattle.std.specs.Prelude.{◌≡◌, ◌↔◌, ℕ, ◌<◌, Bool, IsTrue, 
 use Rattle.wq_words.specs.declared.layout.Layout.{Layout}
 use Rattle.wq_words.specs.declared.event.Event.{Event}
 use Rattle.wq_words.specs.Numbers.{number_count}
-use Rattle.wq_words.specs.History.{running, closed, shut, HasDrained}
+use Rattle.wq_words.specs.History.{running, unbegun, closed, shut, HasDrained}
 use Rattle.wq_words.specs.Legal.{MayFollow, IsLegal}
 use Rattle.wq_words.specs.Keeper.{Keeper, Home, Sender, Listed, Owner, keeper}
 use Rattle.wq_check.specs.declared.cause.Cause.{Cause}
 use Rattle.wq_check.specs.declared.counts.Counts.{Counts}
 use Rattle.wq_check.specs.declared.queue.Place.{Place}
 use Rattle.wq_check.specs.declared.queue.Place.TheVariants.{Idle, Held, Waiting}
-use Rattle.wq_check.specs.Left.{unbegun}
 use Rattle.wq_check.specs.Causes.{HasCause}
 use Rattle.wq_check.specs.Report.{event_counts}
 

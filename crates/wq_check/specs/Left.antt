@@ -1,15 +1,11 @@
 -- What waits in a history, and what it leaves undone.
 use Rattle.std.specs.Prelude.{ℕ, zero, suc, max, List, length, take, drop}
 use Rattle.wq_words.specs.declared.event.Event.{Event}
-use Rattle.wq_words.specs.History.{accepted, begun, ended}
+use Rattle.wq_words.specs.History.{accepted, ended, unbegun}
 
 -- what was accepted and has not ended, in order
 abbrev pub left : List Event → List ℕ
 left h = drop (length (ended h)) (accepted h)
-
--- what was accepted and has not begun, in order
-abbrev pub unbegun : List Event → List ℕ
-unbegun h = drop (length (begun h)) (accepted h)
 
 -- the largest of the f n over all n from 0 to here
 abbrev pub largest_up_to : (ℕ → ℕ) → ℕ → ℕ

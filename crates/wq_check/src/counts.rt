@@ -1,8 +1,8 @@
 //! What is counted of a history.
 ghost use Rattle.std.specs.Prelude.{◌≡◌, ◌∷◌, ◌++◌, [], ◌+◌, ℕ, List, length, cond};
 ghost use Rattle.wq_words.specs.declared.event.Event.{Event};
+ghost use Rattle.wq_words.specs.History.{unbegun};
 ghost use Rattle.wq_words.specs.Counting.{capped, is_chain, is_busy, is_refusal};
-ghost use Rattle.wq_check.specs.Left.{unbegun};
 ghost use Rattle.wq_check.specs.Report.{event_counts};
 
 use wq_words::{Event, Why};

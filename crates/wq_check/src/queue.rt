@@ -2,13 +2,13 @@
 ghost use Rattle.std.specs.Prelude.{◌≡◌, ◌↔◌, ◌<◌, List, ◌++◌, ◌∷◌, [], length, get_or, slice_get, IsTrue, IfOk, OnOk, IfErr};
 ghost use Rattle.wq_words.specs.declared.event.Event.{Event};
 ghost use Rattle.wq_words.specs.declared.event.Event.TheVariants as event;
-ghost use Rattle.wq_words.specs.History.{IsPending, Holds, IsDraining};
+ghost use Rattle.wq_words.specs.History.{unbegun, IsPending, Holds, IsDraining};
 ghost use Rattle.wq_words.specs.Legal.{HasNumber, IsAllowed};
 ghost use Rattle.wq_words.specs.Numbers.{number_count};
 ghost use Rattle.wq_check.specs.declared.queue.Place.TheVariants.{Idle};
 ghost use Rattle.wq_check.specs.Causes.{HasEventError};
 ghost use Rattle.wq_check.specs.Checked.{StandsAfter, Judges};
-ghost use Rattle.wq_check.specs.Left.{left, unbegun};
+ghost use Rattle.wq_check.specs.Left.{left};
 
 use crate::cause::{Cause, EventError};
 use circular_buffer::HeapCircularBuffer;

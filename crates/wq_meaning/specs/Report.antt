@@ -1,10 +1,11 @@
 -- The seven counts of a report, and how they read.
-use Rattle.std.specs.Prelude.{ℕ, ◌-◌, List, [], ◌∷◌, ◌++◌, length, count_by, codes}
+use Rattle.std.specs.Prelude.{ℕ, List, [], ◌∷◌, ◌++◌, length, count_by, codes}
 use Rattle.std.specs.List.{flat_map}
 use Rattle.std.specs.Fmt.{decimal}
 use Rattle.wq_words.specs.declared.event.Event.{Event}
 use Rattle.wq_words.specs.History.{accepted, ended}
 use Rattle.wq_words.specs.Counting.{is_chain, is_busy, is_refusal}
+use Rattle.wq_meaning.specs.Execution.{left_in}
 use Rattle.wq_meaning.specs.declared.report.Counts.{Counts}
 
 -- the counts of a history, where so many items stand on the delay table
@@ -16,7 +17,7 @@ counts_of delayed h = record {
   busy = count_by is_busy h;
   refused = count_by is_refusal h;
   delayed = delayed;
-  waiting = length (accepted h) - length (ended h);
+  waiting = left_in h;
 }
 
 abbrev pub line : List ℕ → List ℕ

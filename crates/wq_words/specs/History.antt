@@ -1,5 +1,5 @@
 -- What a history of events says, oldest event first: lists and counts of its events.
-use Rattle.std.specs.Prelude.{ℕ, ◌<◌, ◌+◌, ◌==◌, Bool, true, false, not, ◌&&◌, List, length, Option, Some, None, slice_get, count_by, filter_map, nat_lt}
+use Rattle.std.specs.Prelude.{ℕ, ◌<◌, ◌+◌, ◌==◌, Bool, true, false, not, ◌&&◌, List, length, drop, Option, Some, None, slice_get, count_by, filter_map, nat_lt}
 use Rattle.std.specs.Prelude.{if◌then◌else◌}
 use Rattle.std.specs.List.{after_last, before_last}
 use Rattle.wq_words.specs.declared.event.Event.{Event}
@@ -39,6 +39,10 @@ running h = slice_get (begun h) (length (ended h))
 
 abbrev pub next : List Event → Option ℕ
 next h = slice_get (accepted h) (length (begun h))
+
+-- what was accepted and has not begun, in order
+abbrev pub unbegun : List Event → List ℕ
+unbegun h = drop (length (begun h)) (accepted h)
 
 -- the PENDING bit of k: its Hold and Chain events are more than its Back and Begin events (`work_pending`; the bit is
 -- set by test-and-set as an item is queued, and cleared before its function is called)
