@@ -1,5 +1,5 @@
 -- How a queue stands once an event came.
-use Rattle.wq_check.proofs.Common.{◌≡◌, ◌≢◌, ℕ, replicate, ◌+◌, ◌-◌, ◌<◌, ◌≤◌, ◌↔◌, true, false, List, [], ◌∷◌, ◌++◌, length, drop, get_or}
+use Rattle.wq_check.proofs.Common.{◌≡◌, ℕ, replicate, ◌+◌, ◌-◌, ◌<◌, ◌≤◌, ◌↔◌, true, false, List, [], ◌∷◌, ◌++◌, length, drop, get_or}
 use Rattle.wq_check.proofs.Common.{slice_get, Some, None, refl, sym, ap, ◌∙◌, arith, inl, inr, length-append, drop-drop, slice_get_past, false≢true}
 use Rattle.wq_check.proofs.Common.{cases_eq, Layout, Event, Hold, Busy, Push, Back, Take, Close, Drain, Resume, Begin, Chain, ChainBusy, Rest}
 use Rattle.wq_check.proofs.Common.{number_count, accepted, begun, ended, IsRunning, Keeper, Home, Sender, Listed, Owner, keeper, growing}

@@ -1,5 +1,5 @@
 -- What a checker reports of a history.
-use Rattle.std.specs.Prelude.{ℕ, ◌==◌, ◌&&◌, List, length, count_by}
+use Rattle.std.specs.Prelude.{◌==◌, ◌&&◌, List, length, count_by}
 use Rattle.wq_words.specs.declared.event.Event.{Event}
 use Rattle.wq_words.specs.History.{accepted, ended, closed}
 use Rattle.wq_words.specs.Counting.{capped, is_chain, is_busy, is_refusal}

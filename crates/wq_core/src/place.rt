@@ -1,7 +1,6 @@
 //! Where the words of a queue stand, and what they say. A table of them is `word_count` words long: the head, the links,
 //! the item words with the PENDING bits, and the count of ended executions.
 ghost use Rattle.std.specs.Prelude.{◌≡◌, ◌≤◌, ◌^◌};
-ghost use Rattle.wq_words.specs.declared.layout.Layout.{Layout};
 ghost use Rattle.wq_words.specs.Numbers.{number_count};
 ghost use Rattle.wq_core.specs.Words.{link_place, item_place, done_place, word_count, TakesPushes, link_word, number_at, word_at, head_at, item_of};
 

@@ -1,5 +1,5 @@
 //! Ledgers that balance, or why they do not.
-ghost use Rattle.std.specs.Prelude.{◌≡◌, ◌↔◌, ◌*◌, ◌<◌, [], ◌∷◌, All, IsTrue, MatchResult};
+ghost use Rattle.std.specs.Prelude.{◌≡◌, ◌↔◌, [], ◌∷◌, All, IsTrue, MatchResult};
 ghost use Rattle.wq_live.specs.Known.{Known};
 ghost use Rattle.wq_live.specs.Counts.{owner_counts};
 ghost use Rattle.wq_ledger.specs.Book.{book_of, IsLedgerOf, AreBookParts};

@@ -1,6 +1,5 @@
 //! The machine in memory, step by step.
-ghost use Rattle.std.specs.Prelude.{◌≡◌, ◌<◌, ◌↔◌, true, IsTrue, IfOk, IfErr, IfSome, OnOk, OnErr, [], length, get_or, Some, None};
-ghost use Rattle.wq_words.specs.declared.layout.Layout.{Layout};
+ghost use Rattle.std.specs.Prelude.{◌≡◌, ◌<◌, ◌↔◌, IsTrue, IfOk, IfErr, IfSome, OnOk, OnErr, [], length, get_or, Some, None};
 ghost use Rattle.wq_words.specs.Numbers.{number_count};
 ghost use Rattle.wq_words.specs.History.{accepted, begun, Holds, IsClosed, IsShut, IsDraining, IsRunning};
 ghost use Rattle.wq_core.specs.declared.step.Seat.TheVariants.{Sender, Owner};

@@ -1,5 +1,5 @@
 //! Lines of output, and how numbers are written on them.
-ghost use Rattle.std.specs.Prelude.{◌≡◌, ◌+◌, ◌++◌, if◌then◌else◌, OnOk, string_bytes};
+ghost use Rattle.std.specs.Prelude.{◌≡◌, ◌++◌, if◌then◌else◌, OnOk, string_bytes};
 ghost use Rattle.wq_meaning.specs.Report.{line};
 ghost use Rattle.wq_meaning.specs.Names.{named, list_text, row_text, advance_word, left_text};
 

@@ -8,7 +8,7 @@ use Rattle.wq_worker.specs.Rows.{Along}
 use Rattle.wq_worker.specs.Silent.{AddsNoNumber}
 use Rattle.wq_pool.specs.Finished.{EndsFrom}
 use Rattle.wq_pool.specs.Quiet.{IsUnused, IsQuiet}
-use Rattle.wq_pool.proofs.Common.{◌≡◌, ℕ, suc, ◌<◌, List, [], ◌∷◌, Some, None, sym, refl, ap, ◌∙◌, subst, WorkerState, BeginAsHandedIn}
+use Rattle.wq_pool.proofs.Common.{◌≡◌, ℕ, suc, ◌<◌, List, [], ◌∷◌, sym, refl, ap, ◌∙◌, subst, WorkerState, BeginAsHandedIn}
 
 module _ {K W B : Type 0} (state : K → WorkerState W) (deals : K → K → Type 0) (book : B → BookState) (has_brought : K → B → Type 0)
     (none : (a b : K) → (state a).number < (state a).layout.senders → ¬ IsRunning (state a).seen → Along deals a b

@@ -1,5 +1,5 @@
 //! A run of several queues by live threads.
-ghost use Rattle.std.specs.Prelude.{◌≡◌, ◌+◌, ◌≤◌, map, length, All, IfSome, IfOk};
+ghost use Rattle.std.specs.Prelude.{◌≡◌, ◌≤◌, map, length, All, IfSome, IfOk};
 ghost use Rattle.wq_ready.specs.Known.{IsCallerOf};
 ghost use Rattle.wq_turn.specs.WorkerId.{worker_id};
 ghost use Rattle.wq_race.specs.Race.{AllQueued};

@@ -1,6 +1,6 @@
 //! What a check found, as a number.
 ghost use Rattle.std.specs.Prelude.{◌≡◌};
-ghost use Rattle.wq_rows.specs.Codes.{cause_code, event_code, row_code, layout_code, check_code, SaidHistory};
+ghost use Rattle.wq_rows.specs.Codes.{cause_code, event_code, row_code, layout_code, SaidHistory};
 
 use crate::checking::{RowError, RowsError, check};
 use crate::row::Row;

@@ -1,5 +1,5 @@
 //! The engine of scripts over the words that threads could share.
-ghost use Rattle.std.specs.Prelude.{◌≡◌, ℕ, ◌+◌, ◌^◌, ◌≤◌, List, length, IfOk, OnOk, string_bytes};
+ghost use Rattle.std.specs.Prelude.{◌≡◌, ℕ, ◌^◌, ◌≤◌, List, length, IfOk, OnOk, string_bytes};
 ghost use Rattle.wq_text.specs.Fits.{Fits};
 ghost use Rattle.wq_text.specs.TextLimits.{most_script_senders};
 ghost use Rattle.wq_meaning.specs.Commands.{opening_state};

@@ -1,5 +1,5 @@
 //! All seats of a queue, and how each hears what one of them has seen.
-ghost use Rattle.std.specs.Prelude.{◌≡◌, ◌<◌, not, List, length, All, slice_index_or, IfOk, MatchOption, ◌+◌, ◌≤◌, [], replicate, slice_set};
+ghost use Rattle.std.specs.Prelude.{◌≡◌, ◌<◌, not, List, length, All, slice_index_or, IfOk, MatchOption, ◌≤◌, [], replicate, slice_set};
 ghost use Rattle.wq_text.specs.TextLimits.{most_script_senders};
 ghost use Rattle.wq_meaning.specs.Arming.{posted_items};
 ghost use Rattle.wq_meaning.specs.Execution.{no_follow};

@@ -1,5 +1,5 @@
 //! What the senders of a script and the delay table have counted.
-ghost use Rattle.std.specs.Prelude.{◌≡◌, ◌^◌, ◌≤◌, ◌==◌};
+ghost use Rattle.std.specs.Prelude.{◌≡◌, ◌^◌, ◌≤◌};
 ghost use Rattle.wq_script.specs.Counting.{HasTallyRoom, counted, counted_armed, counted_push, counted_modified, counted_posts};
 
 use wq_words::{Answer, Armed, Modified};

@@ -1,5 +1,5 @@
 //! A worker at work.
-ghost use Rattle.std.specs.Prelude.{◌≡◌, ◌<◌, true, false, Contains};
+ghost use Rattle.std.specs.Prelude.{◌≡◌, ◌<◌, true, Contains};
 ghost use Rattle.wq_words.specs.Numbers.{stop_number};
 ghost use Rattle.wq_words.specs.History.{ended, IsClosed, IsRunning, IsDraining};
 ghost use Rattle.wq_words.specs.Legal.{IsLegal};

@@ -6,7 +6,6 @@ ghost use Rattle.wq_value_worker.specs.Dealt.{dealt_of, BothDeal, BothDealOut};
 
 use crate::value_follow::ValueFollow;
 use crate::value_work::ValueWork;
-use wq_calls::Paired;
 use wq_values::{ValueAnswer, ValuePair};
 use wq_worker::is_shut;
 

@@ -1,7 +1,7 @@
 use Rattle.wq_table.proofs.Common.{◌==◌, ℕ, None, sym, ap, subst, either, Carries, Performs, part_at, GoesBy, standing_of, ValueSteps}
 use Rattle.wq_core.specs.declared.step.Step.TheVariants as step
 use Rattle.wq_table.specs.SlotSteps.{in_front}
-use Rattle.wq_table.proofs.Steps.{linked, number_pushed}
+use Rattle.wq_table.proofs.Steps.{number_pushed}
 use Rattle.wq_table.proofs.Steps as steps
 use Rattle.wq_table.proofs.SlotTold.{deep_in, by_either}
 use Rattle.wq_table.proofs.ByKind as by
