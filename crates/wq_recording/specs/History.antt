@@ -7,7 +7,7 @@ use Rattle.wq_words.specs.declared.event.Event.{Event}
 use Rattle.wq_words.specs.declared.event.Event.TheVariants as event
 use Rattle.wq_words.specs.declared.layout.Layout.{Layout}
 use Rattle.wq_words.specs.Legal.{HasSeat, HasNumber}
-use Rattle.wq_words.specs.Limits.{most_items}
+use Rattle.wq_words.specs.Limits.{most_items, most_senders}
 use Rattle.wq_text.specs.declared.fault.Kind.{Kind}
 use Rattle.wq_text.specs.Arguments.{item, no_word, one}
 use Rattle.wq_text.specs.Fault.{of_none, of_one, of_two}
@@ -110,7 +110,7 @@ abbrev pub history_grammar : Grammar Telling Entry
 history_grammar = record {
   version = codes "history 1";
   names_seats = true;
-  most = record { items = most_items; senders = 64 };
+  most = record { items = most_items; senders = most_senders };
   names = telling_at;
   asks = λ l t w ws. entry_gives l t w (without_first ws);
 }

@@ -4,7 +4,7 @@ ghost use Rattle.wq_recording.specs.History.{IsOf, history_grammar};
 use crate::entry::Entry;
 use crate::history_words::{Telling, entry, telling_of};
 use wq_text::{Language, LineError, Most, without_first};
-use wq_words::{Layout, MOST_ITEMS};
+use wq_words::{Layout, MOST_ITEMS, MOST_SENDERS};
 
 // The lines of a history, each an entry at most.
 pub(crate) struct Entries;
@@ -29,7 +29,7 @@ impl Language for Entries {
     fn most() -> Most {
         Most {
             items: MOST_ITEMS,
-            senders: 64,
+            senders: MOST_SENDERS,
         }
     }
 

@@ -4,7 +4,7 @@ use Rattle.wq_text.proofs.Common.{Layout, Kind, tested, at_most, two_of, three_o
 use Rattle.std.specs.Coded.{le_prop}
 use Rattle.wq_words.specs.declared.layout.LayoutError.{LayoutError}
 use Rattle.wq_words.specs.declared.layout.LayoutError.TheVariants.{Items, Barriers, Senders}
-use Rattle.wq_words.specs.Limits.{AreInLimits, IsBetween, IsFirstOutOfLimits, most_items}
+use Rattle.wq_words.specs.Limits.{AreInLimits, IsBetween, IsFirstOutOfLimits, most_items, most_barriers, most_senders}
 
 at_most-is : (m n : ℕ) (h : m ≤ n) → at_most m n ≡ Some h
 at_most-is m n h = by_test (nat_le m n) refl
@@ -28,8 +28,8 @@ unfolding limited
 limited_is k l =
     let h = l.in_limits in
     let all : in_limits l.items l.barriers l.senders ≡ Some h =
-    three-is (within 1 l.items most_items) (within 1 l.barriers 16) (within 1 l.senders 64) h.0 h.1 h.2 (within-is 1 l.items most_items h.0)
-    (within-is 1 l.barriers 16 h.1) (within-is 1 l.senders 64 h.2) in
+    three-is (within 1 l.items most_items) (within 1 l.barriers most_barriers) (within 1 l.senders most_senders) h.0 h.1 h.2
+    (within-is 1 l.items most_items h.0) (within-is 1 l.barriers most_barriers h.1) (within-is 1 l.senders most_senders h.2) in
     ap (with_limits k l.items l.barriers l.senders) all
 
 pub limited_ok : (k : Kind) (l : Layout) (items barriers senders : ℕ) → l.items ≡ items → l.barriers ≡ barriers → l.senders ≡ senders

@@ -3,7 +3,7 @@ use Rattle.std.specs.Prelude.{◌≡◌, ℕ, ◌≤◌, Bool, true, false, ◌|
 use Rattle.std.specs.Str.{bytes_eq}
 use borrow.Author.Tests.{leb-true}
 use Rattle.wq_words.specs.declared.layout.Layout.{Layout}
-use Rattle.wq_words.specs.Limits.{AreInLimits, IsBetween, most_items}
+use Rattle.wq_words.specs.Limits.{AreInLimits, IsBetween, most_items, most_barriers, most_senders}
 use Rattle.wq_words.specs.Layout.{layout_of_numbers}
 use Rattle.wq_text.specs.declared.fault.Kind.{Kind}
 use Rattle.wq_text.specs.declared.fault.Kind.TheVariants as kind
@@ -50,7 +50,7 @@ abbrev pub within : (low n high : ℕ) → Option (IsBetween low n high)
 within low n high = two_of (at_most low n) (at_most n high)
 
 abbrev pub in_limits : (items barriers senders : ℕ) → Option (AreInLimits items barriers senders)
-in_limits items barriers senders = three_of (within 1 items most_items) (within 1 barriers 16) (within 1 senders 64)
+in_limits items barriers senders = three_of (within 1 items most_items) (within 1 barriers most_barriers) (within 1 senders most_senders)
 
 -- the layout of these numbers, or the fault k where they are out of the limits of a queue
 abbrev pub with_limits : Kind → (items barriers senders : ℕ) → Option (AreInLimits items barriers senders) → Result Layout Kind
@@ -70,7 +70,8 @@ behind_items false most items = of_one stage.Commands (limited kind.Items items 
 unfoldable pub header_gives : Bool → Most → Stage → List (List ℕ) → Result Stage Kind
 header_gives seats most stage.Items ws = one (between kind.Items 1 most.items) ws >>= behind_items seats most
 header_gives seats most (stage.Senders l) ws = of_one stage.Barriers (one (between kind.Senders 1 most.senders) ws >>= λ n. limited kind.Senders l.items 1 n)
-header_gives seats most (stage.Barriers l) ws = of_one stage.Commands (one (between kind.Barriers 1 16) ws >>= λ n. limited kind.Barriers l.items n l.senders)
+header_gives seats most (stage.Barriers l) ws =
+    of_one stage.Commands (one (between kind.Barriers 1 most_barriers) ws >>= λ n. limited kind.Barriers l.items n l.senders)
 header_gives seats most s ws = Err kind.Header
 
 abbrev pub header_line_gives : Bool → Most → Stage → List ℕ → List (List ℕ) → Result Stage Kind

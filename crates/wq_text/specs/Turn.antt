@@ -4,7 +4,7 @@ use Rattle.std.specs.Str.{bytes_eq}
 use Rattle.wq_words.specs.declared.event.Why.{Why}
 use Rattle.wq_words.specs.declared.event.Why.TheVariants as why
 use Rattle.wq_words.specs.declared.layout.Layout.{Layout}
-use Rattle.wq_words.specs.Limits.{most_items, most_text_items}
+use Rattle.wq_words.specs.Limits.{most_items, most_senders, most_text_items}
 use Rattle.wq_words.specs.Numbers.{barrier_number, stop_number}
 use Rattle.wq_core.specs.declared.step.Seat.{Seat}
 use Rattle.wq_core.specs.declared.step.Seat.TheVariants as seat
@@ -158,7 +158,7 @@ abbrev pub schedule_grammar : Grammar Action Turn
 schedule_grammar = record {
   version = codes "steps 1";
   names_seats = true;
-  most = record { items = most_text_items; senders = 64 };
+  most = record { items = most_text_items; senders = most_senders };
   names = action_at;
   asks = λ l a w ws. turn_gives l a w (without_first ws);
 }
@@ -168,7 +168,7 @@ abbrev pub schedule_grammar_2 : Grammar Action Turn
 schedule_grammar_2 = record {
   version = codes "steps 2";
   names_seats = true;
-  most = record { items = most_items; senders = 64 };
+  most = record { items = most_items; senders = most_senders };
   names = action_at_2;
   asks = λ l a w ws. turn_gives l a w (without_first ws);
 }

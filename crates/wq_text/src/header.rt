@@ -7,7 +7,7 @@ ghost use Rattle.wq_text.specs.declared.header.Stage.TheVariants.{Items};
 
 use crate::arguments::one_between;
 use crate::fault::{Kind, LineError};
-use wq_words::Layout;
+use wq_words::{Layout, MOST_BARRIERS};
 
 /// How many items and senders a kind of text may name at most.
 #[derive(Clone, Copy)]
@@ -99,7 +99,7 @@ pub(crate) fn header_line(
             limited(Kind::Senders, layout.items, 1, senders).map(Stage::Barriers)
         }
         (Stage::Barriers(layout), "barriers") => {
-            let barriers = one_between(Kind::Barriers, 1, 16, others)?;
+            let barriers = one_between(Kind::Barriers, 1, MOST_BARRIERS, others)?;
             limited(Kind::Barriers, layout.items, barriers, layout.senders).map(Stage::Commands)
         }
         _ => Err(LineError::Fault(Kind::Header)),

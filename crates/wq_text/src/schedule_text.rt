@@ -1,5 +1,6 @@
 //! From the bytes of a text to its schedule.
 ghost use Rattle.std.specs.Prelude.{IfOk};
+ghost use Rattle.wq_words.specs.Limits.{most_senders};
 ghost use Rattle.wq_text.specs.Fault.{IfRefused};
 ghost use Rattle.wq_text.specs.Schedule.{schedule_layout, turns_of};
 ghost use Rattle.wq_text.specs.Sound.{AreSound};
@@ -15,7 +16,7 @@ use crate::text::{is_of, read};
 use crate::turn::{Action, action_of, action_of_2, turn, without_first};
 use std::alloc::Global;
 use wq_core::{Seat, Step};
-use wq_words::{Layout, MOST_ITEMS, MOST_TEXT_ITEMS};
+use wq_words::{Layout, MOST_ITEMS, MOST_SENDERS, MOST_TEXT_ITEMS};
 
 // The lines of a schedule, each a turn at most.
 struct Turns;
@@ -40,7 +41,7 @@ impl Language for Turns {
     fn most() -> Most {
         Most {
             items: MOST_TEXT_ITEMS,
-            senders: 64,
+            senders: MOST_SENDERS,
         }
     }
 
@@ -81,7 +82,7 @@ impl Language for Turns2 {
     fn most() -> Most {
         Most {
             items: MOST_ITEMS,
-            senders: 64,
+            senders: MOST_SENDERS,
         }
     }
 
@@ -103,7 +104,7 @@ impl Language for Turns2 {
 fn read_schedule(alloc: Global, text: &[u8]) -> Result<(Layout, Vec<(Seat, Step)>), ParseError>
     ensures spells { IfOk result (λ x. Spells (schedule_lines text.now) text.now x.0 x.1.items) }
     ensures refused { IfRefused result (IsRefusal (schedule_lines text.now) text.now) }
-    ensures sound { IfOk result (λ x. AreSound 64 PlacedIn x.0 x.1.items) }
+    ensures sound { IfOk result (λ x. AreSound most_senders PlacedIn x.0 x.1.items) }
 {
     if is_of::<Turns2>(text) {
         read::<Turns2>(alloc, text)

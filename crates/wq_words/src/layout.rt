@@ -7,6 +7,12 @@ use thiserror::Error;
 /// The most items that a queue can have.
 pub const MOST_ITEMS: u32 = 65_536;
 
+/// The most barriers that a queue can have.
+pub const MOST_BARRIERS: u32 = 16;
+
+/// The most senders that a queue can have.
+pub const MOST_SENDERS: u32 = 64;
+
 /// The most items of a queue in a script or a schedule of version 1, and in a plan (docs/FORMATS.md).
 pub const MOST_TEXT_ITEMS: u32 = 4_096;
 
@@ -48,10 +54,10 @@ impl Layout {
         if items < 1 || items > MOST_ITEMS {
             return Err(LayoutError::Items);
         }
-        if barriers < 1 || barriers > 16 {
+        if barriers < 1 || barriers > MOST_BARRIERS {
             return Err(LayoutError::Barriers);
         }
-        if senders < 1 || senders > 64 {
+        if senders < 1 || senders > MOST_SENDERS {
             return Err(LayoutError::Senders);
         }
         Ok(Layout {
