@@ -8,6 +8,10 @@ use Rattle.wq_plan.specs.Plan.{AreInPlanLimits}
 use Rattle.wq_plan.specs.declared.plan_text.PlanError.{PlanError}
 use Rattle.wq_plan.specs.declared.plan_text.PlanError.TheVariants as error
 
+-- the most bytes of a plan's text
+abbrev pub most_plan_bytes : ℕ
+most_plan_bytes = 65536
+
 abbrev pub member_count : Members → ℕ
 member_count no_members = 0
 member_count (member key value ms) = suc (member_count ms)
@@ -38,7 +42,7 @@ pub record IsPlan (d : Data) (plan : Plan) : Type 0 where
 
 -- the text is short enough, and this is what it says as JSON
 pub record SaysJson (text : List ℕ) (d : Data) : Type 0 where
-  pub size : length text ≤ 65536
+  pub size : length text ≤ most_plan_bytes
   pub utf8 : IsUtf8 text
   pub reads : read text ≡ Some d
 
@@ -51,8 +55,8 @@ pub record SpellsPlan (text : List ℕ) (plan : Plan) : Type 0 where
 
 -- the first refusal of a text, in this order: its size, that it is no JSON, its keys, its values
 abbrev pub IsNoPlan : List ℕ → PlanError → Type 0
-IsNoPlan text error.Size = 65536 < length text
-IsNoPlan text error.Json = (length text ≤ 65536) × (IsUtf8 text → read text ≡ None)
+IsNoPlan text error.Size = most_plan_bytes < length text
+IsNoPlan text error.Json = (length text ≤ most_plan_bytes) × (IsUtf8 text → read text ≡ None)
 IsNoPlan text error.Keys = (d : Data) × SaysJson text d × (¬ HasKeys d)
 IsNoPlan text error.Limits = (d : Data) × SaysJson text d × HasKeys d × ((plan : Plan) → ¬ IsPlan d plan)
 IsNoPlan text error.Memory = Unit {0}

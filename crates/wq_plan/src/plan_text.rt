@@ -13,11 +13,11 @@ use wq_words::MOST_TEXT_ITEMS;
 /// How many bytes a plan's text has at most.
 pub const MOST_PLAN_BYTES: usize = 65_536;
 
-const MOST_QUEUES: u64 = 8;
+const MOST_PLAN_QUEUES: u64 = 8;
 
-const MOST_WORKERS: u64 = 8;
+const MOST_PLAN_WORKERS: u64 = 8;
 
-const MOST_SENDERS: u64 = 32;
+const MOST_PLAN_SENDERS: u64 = 32;
 
 /// Why a text is no plan, in the order in which this is tested.
 #[derive(Clone, Copy, Debug, PartialEq, Eq, Error)]
@@ -87,10 +87,10 @@ fn plan_of(value: &Value) -> Option<Plan>
     let own = whole_number(value, "own")?;
     // Over all senders.
     let most_items = u64::from(MOST_TEXT_ITEMS);
-    if queues < 1 || queues > MOST_QUEUES || workers < 1 || workers > MOST_WORKERS {
+    if queues < 1 || queues > MOST_PLAN_QUEUES || workers < 1 || workers > MOST_PLAN_WORKERS {
         return None;
     }
-    if senders < 1 || senders > MOST_SENDERS || own < 1 || own > most_items {
+    if senders < 1 || senders > MOST_PLAN_SENDERS || own < 1 || own > most_items {
         return None;
     }
     if senders * own > most_items {

@@ -5,7 +5,7 @@ use Rattle.std.specs.declared.thread.PromisedHandle.{PromisedHandle}
 use Rattle.wq_words.specs.Seen.{own}
 use Rattle.wq_live.specs.Known.{Known, new_sender}
 use Rattle.wq_plan.specs.declared.plan.Plan.{Plan}
-use Rattle.wq_plan.specs.Plan.{IsLayoutOf}
+use Rattle.wq_plan.specs.Plan.{most_plan_queues, IsLayoutOf}
 use Rattle.wq_race.specs.Race.{HasQueuedStop, AllQueued, IsOfStop, IsQueuer}
 use Rattle.wq_ready.specs.Known.{Identity, IsCallerOf}
 use Rattle.wq_turn.specs.declared.worker_id.WorkerId.{WorkerId}
@@ -29,7 +29,7 @@ pub record AreCallersOf (ready : Identity) (senders : ℕ) (callers : Callers) :
 -- a group with a sender for some of the pool's queues, each with room for its own items
 pub record IsGroupFor {K : Type 0} (own_items : ℕ) (pool : PoolState K) (group : Group) : Type 0 where
   pub places : length group.senders.items ≤ length pool.workers
-  pub few : length group.senders.items ≤ 8
+  pub few : length group.senders.items ≤ most_plan_queues
   pub rooms : All (λ s. s.number * own_items + own_items ≤ s.layout.items) group.senders.items
 
 -- groups and the program's senders, with the callers that their threads take
@@ -37,7 +37,7 @@ pub record MayRun {K : Type 0} (own_items : ℕ) (pool : PoolState K) (callers :
   pub called : AreCallersOf pool.ready (length groups) callers
   pub ready : All (IsGroupFor own_items pool) groups
   pub places : length programs ≤ length pool.workers
-  pub few : length programs ≤ 8
+  pub few : length programs ≤ most_plan_queues
 
 -- each of these threads was given the group at its place, and how many items are its senders' own
 abbrev pub AreGroupThreads : ℕ → List Group → List (PromisedHandle Group QueuesGroup) → Type 0

@@ -1,7 +1,7 @@
 -- What the program makes of a plan's text.
-use Rattle.std.specs.Prelude.{◌≡◌, ℕ, List, take}
+use Rattle.std.specs.Prelude.{◌≡◌, ℕ, ◌+◌, List, take}
 use Rattle.wq_plan.specs.declared.plan.Plan.{Plan}
-use Rattle.wq_plan.specs.PlanText.{SpellsPlan}
+use Rattle.wq_plan.specs.PlanText.{most_plan_bytes, SpellsPlan}
 use Rattle.wq_race.specs.declared.outcome.Outcome.{Outcome}
 use Rattle.wq_race.specs.Outcome.{outcome_line, IsWhole, TellsRace}
 use Rattle.wq_pool_plan.specs.Race.{IsLone}
@@ -21,4 +21,4 @@ pub record Races (text line : List ℕ) : Type 0 where
 
 -- as much of a reader's bytes as is read: one more than a plan may have
 abbrev pub plan_read : List ℕ → List ℕ
-plan_read bytes = take 65537 bytes
+plan_read bytes = take (most_plan_bytes + 1) bytes

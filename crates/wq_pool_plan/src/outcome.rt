@@ -1,5 +1,6 @@
 //! What a race over a pool did, and whether its books balance.
 ghost use Rattle.std.specs.Prelude.{◌≡◌, ◌+◌, ◌^◌, ◌<◌, ◌≤◌, List, length, All, IfOk};
+ghost use Rattle.wq_plan.specs.Plan.{most_plan_queues};
 ghost use Rattle.wq_turn.specs.declared.worker_id.WorkerId.{WorkerId};
 ghost use Rattle.wq_turn.specs.Finished.{IsFinished};
 ghost use Rattle.wq_pool.specs.Finished.{AreFinished};
@@ -144,7 +145,7 @@ pub(crate) fn balance_all(
     mut by_queue: Vec<Group>,
     mut programs: Vec<Sender>,
 ) -> Result<Outcome, AllocError>
-    requires { (plan : Plan) × (ids : List WorkerId) × (length ids ≤ 8)
+    requires { (plan : Plan) × (ids : List WorkerId) × (length ids ≤ most_plan_queues)
         × AreFinished (λ w. w.ran.items) ids finished.items × AllSent plan ids by_queue.items programs.items }
     ensures { IfOk result (λ outcome. (plan : Plan) (ids : List WorkerId) → AreFinished (λ w. w.ran.items) ids finished.items
         → AllSent plan ids by_queue.items programs.items → (runs : List QueueRun) × (length runs ≡ length ids) × TellsRuns plan runs outcome) }

@@ -1,5 +1,6 @@
 //! What the threads of the senders do.
 ghost use Rattle.std.specs.Prelude.{◌+◌, ◌*◌, ◌<◌, ◌≤◌, [], ◌∷◌, length};
+ghost use Rattle.wq_plan.specs.Plan.{most_plan_queues};
 ghost use Rattle.wq_ready.specs.Known.{IsCallerOf};
 ghost use Rattle.wq_race.specs.Race.{items_at, HasQueued, AllQueued};
 ghost use Rattle.wq_pool_plan.specs.Race.{IsGroupFor, AllStopped};
@@ -90,7 +91,7 @@ pub(crate) fn stop_all<R: Wait>(
 )
     requires caller { IsCallerOf pool.now.ready caller }
     requires places { length programs.old.items ≤ length pool.now.workers }
-    requires few { length programs.old.items ≤ 8 }
+    requires few { length programs.old.items ≤ most_plan_queues }
     ensures { AllStopped programs.old.items programs.new.items }
 {
     let mut queue = 0u32;
