@@ -1,5 +1,6 @@
 //! `wqrun steps --history`: a schedule's bytes in, its history as a recording out.
-ghost use Rattle.std.specs.Prelude.{◌≡◌};
+ghost use Rattle.std.specs.Prelude.{◌≡◌, ◌+◌};
+ghost use Rattle.wq_text.specs.TextLimits.{most_bytes};
 ghost use Rattle.wq_commands.specs.ScheduleReport.{Records, HasNoOutput};
 
 use crate::script::TEXT_BYTES;
@@ -16,7 +17,7 @@ impl Subcommand for HistoryCommand {
 
     ghost lacks = { HasNoOutput };
 
-    ghost limit = { 1048577 };
+    ghost limit = { most_bytes + 1 };
 
     fn limit() -> u64 {
         TEXT_BYTES

@@ -1,6 +1,7 @@
 //! `wqrun steps`: a schedule's bytes in, its output's bytes out.
-ghost use Rattle.std.specs.Prelude.{◌≡◌, ◌≢◌, ◌⊎◌, IfSome, take};
+ghost use Rattle.std.specs.Prelude.{◌≡◌, ◌≢◌, ◌⊎◌, ◌+◌, IfSome, take};
 ghost use Rattle.wq_text.specs.declared.fault.ScriptError.{ScriptError};
+ghost use Rattle.wq_text.specs.TextLimits.{most_bytes};
 ghost use Rattle.wq_subcommand.specs.declared.failure.Failure.{Failure as Cause};
 ghost use Rattle.wq_subcommand.specs.Failure.{status_of};
 ghost use Rattle.wq_subcommand.specs.Ending.{Writes, Fails, IsUntouched};
@@ -20,7 +21,7 @@ impl Subcommand for StepsCommand {
 
     ghost lacks = { HasNoOutput };
 
-    ghost limit = { 1048577 };
+    ghost limit = { most_bytes + 1 };
 
     fn limit() -> u64 {
         TEXT_BYTES
@@ -43,10 +44,10 @@ pub fn steps_main<R: Read + Drop, W: Write, F: Write>(
     faults: &mut F,
 ) -> u8
     ensures written { result ≡ 0 → IfSome (R.remaining reader)
-        (λ bytes. Writes Replays (take 1048577 bytes) (W.contents writer.old) (W.contents writer.new)) }
+        (λ bytes. Writes Replays (take (most_bytes + 1) bytes) (W.contents writer.old) (W.contents writer.new)) }
     ensures failed { result ≢ 0 → (cause : Cause ScriptError) × (result ≡ status_of cause) × IsUntouched cause writer.old writer.new
         × IfSome (R.remaining reader)
-        (λ bytes. Fails Replays HasNoOutput (take 1048577 bytes) (W.contents writer.old) (W.contents writer.new) cause) }
+        (λ bytes. Fails Replays HasNoOutput (take (most_bytes + 1) bytes) (W.contents writer.old) (W.contents writer.new) cause) }
     ensures status { (result ≡ 0) ⊎ ((result ≡ 1) ⊎ (result ≡ 3)) }
 {
     subcommand_main(&StepsCommand, alloc, reader, writer, faults)
