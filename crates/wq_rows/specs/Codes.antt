@@ -37,6 +37,7 @@ abbrev pub row_code : RowError → ℕ
 row_code row_error.NoEvent = 96
 row_code (row_error.Event error) = event_code error
 
+-- 80 to 83 are what a call of a seat answers for the same (`error_code` of `wq_seats`), since C has one name for each
 abbrev pub layout_code : LayoutError → ℕ
 layout_code layout.Items = 81
 layout_code layout.Barriers = 82

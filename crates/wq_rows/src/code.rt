@@ -47,6 +47,7 @@ fn row_code(error: RowError) -> u32
     }
 }
 
+// 80 to 83 are what a call of a seat answers for the same (`wq_seats`), since C has one name for each.
 fn layout_code(error: LayoutError) -> u32
     ensures { result ≡ layout_code error }
 {
