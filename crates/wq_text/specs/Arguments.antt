@@ -4,6 +4,7 @@ use Rattle.wq_text.specs.declared.fault.Kind.{Kind}
 use Rattle.wq_text.specs.declared.fault.Kind.TheVariants as kind
 use Rattle.wq_words.specs.declared.layout.Layout.{Layout}
 use Rattle.wq_text.specs.Fault.{◌>>=◌, need, found}
+use Rattle.wq_text.specs.TextLimits.{most_executions}
 use Rattle.wq_text.specs.Word.{spelled_number}
 
 -- a word that is a number, and its range
@@ -32,7 +33,7 @@ abbrev pub barrier : Layout → List ℕ → Result ℕ Kind
 barrier layout w = below kind.Barrier layout.barriers w
 
 abbrev pub limit : List ℕ → Result ℕ Kind
-limit w = between kind.Limit 1 65536 w
+limit w = between kind.Limit 1 most_executions w
 
 -- so many words stand there
 abbrev pub no_word : List (List ℕ) → Result (Unit {0}) Kind

@@ -10,6 +10,9 @@ use crate::fault::{Kind, LineError};
 use crate::word::number_of;
 use wq_words::Layout;
 
+// The most executions that a run or a drain asks for.
+const MOST_EXECUTIONS: u32 = 65_536;
+
 pub(crate) fn number(word: &str) -> Result<u64, LineError>
     ensures exact { LineGives result (number word.now) }
     ensures memory { result ≢ Err Memory }
@@ -80,7 +83,7 @@ pub(crate) fn barrier(layout: Layout, word: &str) -> Result<u32, LineError>
 pub(crate) fn one_limit(words: &[&str]) -> Result<u32, LineError>
     ensures { LineGives result (one limit (map (λ w. w.now) words.now)) }
 {
-    one_between(Kind::Limit, 1, 65536, words)
+    one_between(Kind::Limit, 1, MOST_EXECUTIONS, words)
 }
 
 // An item, the one word that stands there.
