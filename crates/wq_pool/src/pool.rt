@@ -206,7 +206,7 @@ impl<K: Station + Drop> PoolOf<K> {
     pub fn put_back(&self, caller: &mut Caller, worked: WorkedOf<K>)
         requires caller { IsCallerOf self.now.ready caller.old }
         requires worked { worked.slots ≡ self.now.slots }
-        ensures { caller.new ≡ caller.old }
+        ensures same { caller.new ≡ caller.old }
     {
         let _ = caller;
         self.lay_down(worked);

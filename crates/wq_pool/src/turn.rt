@@ -59,7 +59,7 @@ impl<K: Station> Model for WorkedOf<K> {
 impl<K: Station> TurnOf<K> {
     /// The number of the queue.
     pub fn queue(&self) -> u32
-        ensures { result ≡ self.now.queue }
+        ensures queue { result ≡ self.now.queue }
     {
         self.queue
     }
@@ -148,7 +148,7 @@ impl<K: Station> TurnOf<K> {
 impl<K: Station> WorkedOf<K> {
     /// The number of the queue.
     pub fn queue(&self) -> u32
-        ensures { result ≡ self.now.queue }
+        ensures queue { result ≡ self.now.queue }
     {
         self.queue
     }

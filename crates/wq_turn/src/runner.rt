@@ -71,7 +71,7 @@ impl<K: Station> Runner<K> {
 
     /// True just where an execution is owed.
     pub fn owes(&self) -> bool
-        ensures { IsOwed result (K.state self.now).seen }
+        ensures owed { IsOwed result (K.state self.now).seen }
     {
         self.owes
     }

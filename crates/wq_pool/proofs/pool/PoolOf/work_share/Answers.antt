@@ -8,7 +8,7 @@ put_back-requires g c = record { caller = c.loop.invariant.0; worked = c.in-Ok.e
 pub returns-in-Ok : goal.returns-in-Ok
 returns-in-Ok g c =
     let a = c.args.caller.now in
-    record { next = c.loop.invariant.3; goes_on = subst (λ (z : CallerState). GoesOnFrom a z) (sym c.put_back.ensures) c.loop.invariant.1 }
+    record { next = c.loop.invariant.3; goes_on = subst (λ (z : CallerState). GoesOnFrom a z) (sym c.put_back.ensures.same) c.loop.invariant.1 }
 
 pub returns-then-is_announced : goal.returns-then-is_announced
 returns-then-is_announced g c =
@@ -16,7 +16,7 @@ returns-then-is_announced g c =
     let e = c.announce_again-is_announced.ensures in
     record {
       next = e.next;
-      goes_on = subst (λ (z : CallerState). GoesOnFrom a z) (sym c.put_back-then-is_announced.ensures) (goes_on a b d c.loop.invariant.1 e.goes_on);
+      goes_on = subst (λ (z : CallerState). GoesOnFrom a z) (sym c.put_back-then-is_announced.ensures.same) (goes_on a b d c.loop.invariant.1 e.goes_on);
     }
 
 pub loop-preserved-else-is_announced : goal.loop-preserved-else-is_announced
