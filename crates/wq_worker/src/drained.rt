@@ -38,7 +38,7 @@ impl<K> fmt::Debug for Unfinished<K> {
 pub fn left_of<P: Paired>(pair: &P) -> u32
     requires legal { IsLegal (P.known pair.now).layout (P.known pair.now).seen }
     requires shut { IsShut (P.known pair.now).seen }
-    ensures { result + length (ended (P.known pair.now).seen) ≡ length (accepted (P.known pair.now).seen) }
+    ensures left { result + length (ended (P.known pair.now).seen) ≡ length (accepted (P.known pair.now).seen) }
 {
     if let Some(_number) = pair.running() {
         return pair.waiting() + 1;

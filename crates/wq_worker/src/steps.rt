@@ -17,7 +17,7 @@ use wq_live::{Answer, Pair};
 
 /// Whether the queue takes no push now: it is closed, or it drains.
 pub fn is_shut<P: Paired>(pair: &P) -> bool
-    ensures { result ≡ shut (P.known pair.now).seen }
+    ensures shut { result ≡ shut (P.known pair.now).seen }
 {
     pair.is_closed() || pair.is_draining()
 }

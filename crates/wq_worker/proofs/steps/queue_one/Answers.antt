@@ -9,14 +9,14 @@ pub returns-then-is_shut-clause-queued : goal.returns-then-is_shut-clause-queued
 returns-then-is_shut-clause-queued c =
     let e = c.chain.ensures in let a = c.args.pair.now in let b = c.chain.new.self in
     let size : c.layout.result.items ≡ a.layout.items = ap (λ (l : Layout). l.items) c.layout.ensures.layout in
-    let low : c.args.item < a.layout.items = omega arith in let is_shut : shut a.seen ≡ true = sym c.is_shut.ensures ∙ c.if-is_shut.true in
+    let low : c.args.item < a.layout.items = omega arith in let is_shut : shut a.seen ≡ true = sym c.is_shut.ensures.shut ∙ c.if-is_shut.true in
     told_chain c.args.item c.chain.result a b low is_shut e.answer e.others
 
 pub returns-clause-queued : goal.returns-clause-queued
 returns-clause-queued c =
     let e = c.queue_tries-answer.ensures in let a = c.args.pair.now in let d = c.queue_tries-answer.new.self in
     let size : c.layout.result.items ≡ a.layout.items = ap (λ (l : Layout). l.items) c.layout.ensures.layout in
-    let low : c.args.item < a.layout.items = omega arith in let opens : shut a.seen ≡ false = sym c.is_shut.ensures ∙ c.if-is_shut.false in
+    let low : c.args.item < a.layout.items = omega arith in let opens : shut a.seen ≡ false = sym c.is_shut.ensures.shut ∙ c.if-is_shut.false in
     subst (λ (b : Bool). (x : List Event) × Attempts a.layout.items a.number (shut a.seen) c.args.item b x × Both x (cond b 0 c.args.tries) a d)
     (sym c.is_settled.ensures)
     (told_send c.args.item c.args.tries c.queue_tries-answer.result a d low opens e.answer e.others)

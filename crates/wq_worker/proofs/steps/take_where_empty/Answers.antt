@@ -7,7 +7,7 @@ use Rattle.wq_worker.proofs.Shut.{nothing_shut, nothing_taken}
 use Rattle.wq_worker.proofs.steps.take_where_empty.Goals as goal
 
 pub take-requires-clause-open : goal.take-requires-clause-open
-take-requires-clause-open g c = open_from_shut (g.P.Paired.known c.args.pair.now).seen (sym c.is_shut.ensures ∙ c.if-not-is_shut.true)
+take-requires-clause-open g c = open_from_shut (g.P.Paired.known c.args.pair.now).seen (sym c.is_shut.ensures.shut ∙ c.if-not-is_shut.true)
 
 pub take-requires-clause-empty : goal.take-requires-clause-empty
 take-requires-clause-empty g c = empty_from_next (g.P.Paired.known c.args.pair.now).seen
@@ -19,4 +19,4 @@ returns-then-not-is_shut-clause-empty g c none =
 
 pub returns-else-not-is_shut-clause-empty : goal.returns-else-not-is_shut-clause-empty
 returns-else-not-is_shut-clause-empty g c none =
-    let h = (g.P.Paired.known c.args.pair.now).seen in nothing_shut h (IsShut_from_shut h (sym c.is_shut.ensures ∙ c.if-not-is_shut.false)) none
+    let h = (g.P.Paired.known c.args.pair.now).seen in nothing_shut h (IsShut_from_shut h (sym c.is_shut.ensures.shut ∙ c.if-not-is_shut.false)) none

@@ -14,7 +14,7 @@ invariant_of-self g c =
 pub returns-clause-shuts : goal.returns-clause-shuts
 returns-clause-shuts g c =
     let i = c.self.inside in let e = c.drain.ensures in let q = c.drain.new.self in
-    let opens : ¬ IsShut i.pair.known.seen = open_from_shut i.pair.known.seen (sym c.is_shut.ensures ∙ c.if-is_shut.false) in
+    let opens : ¬ IsShut i.pair.known.seen = open_from_shut i.pair.known.seen (sym c.is_shut.ensures.shut ∙ c.if-is_shut.false) in
     let w : ValueWorkerState g.row.V.Denot g.row.W.Denot = value_state_of q i.tries i.left.pairs i.work in
     subst (λ (z : ValueWorkerState g.row.V.Denot g.row.W.Denot). Shuts z.worker w.worker) c.self.view_is
     (drains opens (value_moves_owner (Drain ∷ []) 0 0 i.pair q e.seen e.others i.tries i.left.pairs i.work) refl refl)

@@ -10,7 +10,7 @@ use Rattle.wq_worker.proofs.Step.{state_of, moves_by}
 use Rattle.wq_worker.proofs.worker.WorkerStation.drain_where_open.Goals as goal
 
 pub drain-requires : goal.drain-requires
-drain-requires g c = record { «open» = open_from_shut c.self.inside.pair.seen (sym c.is_shut.ensures ∙ c.if-is_shut.false) }
+drain-requires g c = record { «open» = open_from_shut c.self.inside.pair.seen (sym c.is_shut.ensures.shut ∙ c.if-is_shut.false) }
 
 pub invariant_of-self : goal.invariant_of-self
 invariant_of-self g c =
@@ -21,7 +21,7 @@ invariant_of-self g c =
 pub returns-then-is_shut : goal.returns-then-is_shut
 returns-then-is_shut g c =
     let o : KnownPair = c.self.inside.pair in
-    let is : IsShut o.seen = IsShut_from_shut o.seen (sym c.is_shut.ensures ∙ c.if-is_shut.true) in
+    let is : IsShut o.seen = IsShut_from_shut o.seen (sym c.is_shut.ensures.shut ∙ c.if-is_shut.true) in
     let now : IsShut c.args.self.now.seen = subst (λ (w : WorkerState g.row.W.Denot). IsShut w.seen) c.self.view_is is in
     let i = c.self.inside in let a : WorkerState g.row.W.Denot = state_of i.pair i.tries (drop i.at i.follow.items) i.work in
     record {
@@ -37,7 +37,7 @@ returns g c =
     let q : KnownPair = c.drain.new.self in let left = drop i.at i.follow.items in
     let b : Both (Drain ∷ []) 0 o q = by_owner (Drain ∷ []) 0 0 o q e.seen e.others in
     let w : WorkerState g.row.W.Denot = state_of q i.tries left i.work in
-    let opens : ¬ IsShut o.seen = open_from_shut o.seen (sym c.is_shut.ensures ∙ c.if-is_shut.false) in
+    let opens : ¬ IsShut o.seen = open_from_shut o.seen (sym c.is_shut.ensures.shut ∙ c.if-is_shut.false) in
     record {
       shuts = subst (λ (z : WorkerState g.row.W.Denot). Shuts z w) c.self.view_is
           (drains opens (moves_by (Drain ∷ []) 0 i.tries left left i.work i.work o q b) refl refl);

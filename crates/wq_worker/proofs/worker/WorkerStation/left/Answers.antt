@@ -8,4 +8,5 @@ left_of-requires g c = record {
 }
 
 pub returns : goal.returns
-returns g c = subst (λ (z : WorkerState g.row.W.Denot). c.left_of.result + length (ended z.seen) ≡ length (accepted z.seen)) c.self.view_is c.left_of.ensures
+returns g c =
+    subst (λ (z : WorkerState g.row.W.Denot). c.left_of.result + length (ended z.seen) ≡ length (accepted z.seen)) c.self.view_is c.left_of.ensures.left
