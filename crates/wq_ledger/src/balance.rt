@@ -92,7 +92,7 @@ pub fn sum_all(
     senders: u32,
     ledgers: &[Ledger],
 ) -> Result<Totals, Unbalanced>
-    ensures { (seat : Known) → owner ≡ owner_counts seat.seen → senders ≡ seat.layout.senders → AreBookParts seat own
+    ensures outcome { (seat : Known) → owner ≡ owner_counts seat.seen → senders ≡ seat.layout.senders → AreBookParts seat own
         → All (IsLedgerOf seat.seen) ledgers.now
         → MatchResult result (Balances (book_of seat own) ledgers.now) (IsUnbalanced (book_of seat own) ledgers.now) }
 {

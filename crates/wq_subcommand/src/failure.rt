@@ -34,7 +34,7 @@ pub enum Failure<E = ScriptError> {
 impl<E> Failure<E> {
     /// The exit status: 3 for want of memory or of a thread, else 1.
     pub fn status(&self) -> u8
-        ensures { result ≡ status_of self.now }
+        ensures status { result ≡ status_of self.now }
     {
         match self {
             Failure::Memory => NO_MEMORY,

@@ -116,7 +116,7 @@ fn cause_of(word: &str) -> Option<Why>
 /// The cause of giving back that a word names in a language that knows drains.
 #[tactic(auto, unfolding(crate::specs::Turn::why_at))]
 pub fn why_of(word: &str) -> Option<Why>
-    ensures { result ≡ why_at word.now }
+    ensures why { result ≡ why_at word.now }
 {
     match word {
         "draining" => Some(Why::Draining),
@@ -262,7 +262,7 @@ pub(crate) fn turn(
 
 /// The words without the last of them; no words where there are none.
 pub fn without_last<'a, 'b>(words: &'b [&'a str]) -> &'b [&'a str]
-    ensures { map (λ w. w.now) result.now ≡ without_last (map (λ w. w.now) words.now) }
+    ensures words { map (λ w. w.now) result.now ≡ without_last (map (λ w. w.now) words.now) }
 {
     &words[..words.len().saturating_sub(1)]
 }
@@ -307,7 +307,7 @@ pub(crate) fn action_of_2(first: &str, others: &[&str]) -> Option<Action>
 
 /// The words without the first of them; no words where there are none.
 pub fn without_first<'a, 'b>(words: &'b [&'a str]) -> &'b [&'a str]
-    ensures { map (λ w. w.now) result.now ≡ without_first (map (λ w. w.now) words.now) }
+    ensures words { map (λ w. w.now) result.now ≡ without_first (map (λ w. w.now) words.now) }
 {
     match words {
         [_, others @ ..] => others,

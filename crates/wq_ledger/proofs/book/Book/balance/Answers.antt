@@ -9,6 +9,6 @@ returns c =
     let made : All (IsLedgerOf c.self.inside.owner.seen) ls = subst (λ (z : BookState). All (IsLedgerOf z.seen) ls) (sym c.self.view_is) c.requires in
     record {
       outcome = subst (λ (z : BookState). MatchResult r (Balances z ls) (IsUnbalanced z ls)) c.self.view_is
-          (c.sum_all.ensures c.self.inside.owner c.counts.ensures.counted (ap (λ (z : Layout). z.senders) c.layout-senders.ensures.layout)
+          (c.sum_all.ensures.outcome c.self.inside.owner c.counts.ensures.counted (ap (λ (z : Layout). z.senders) c.layout-senders.ensures.layout)
           c.self.invariant made);
     }

@@ -10,5 +10,5 @@ returns g c =
     let made : All (IsLedgerOf o.seen) ls = subst (λ (z : ValueBookState g.row.V.Denot). All (IsLedgerOf z.book.seen) ls) (sym c.self.view_is) c.requires in
     record {
       outcome = subst (λ (z : ValueBookState g.row.V.Denot). MatchResult r (Balances z.book ls) (IsUnbalanced z.book ls)) c.self.view_is
-          (c.sum_all.ensures o c.counts.ensures.counted (ap (λ (z : Layout). z.senders) c.layout-senders.ensures.layout) c.self.invariant made);
+          (c.sum_all.ensures.outcome o c.counts.ensures.counted (ap (λ (z : Layout). z.senders) c.layout-senders.ensures.layout) c.self.invariant made);
     }
