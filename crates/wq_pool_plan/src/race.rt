@@ -242,7 +242,7 @@ pub fn run_teams<R: Threads + Wait + Sync>(
     alloc: Global,
     plan: Plan,
 ) -> Result<Raced, RaceError>
-    ensures { IfOk result (HaveRun plan) }
+    ensures have_run { IfOk result (HaveRun plan) }
 {
     let Teams {
         served,

@@ -108,7 +108,7 @@ fn destroy<R: Wait>(rt: &R, mut worker: Worker<Idle>) -> (Idle, Book)
 
 /// How many items these senders queued.
 pub fn queued_by(senders: &[Sender]) -> u128
-    ensures { result ≡ queued_sum senders.now }
+    ensures sum { result ≡ queued_sum senders.now }
 {
     let mut queued = 0u128;
     for sender in senders {

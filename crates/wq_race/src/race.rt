@@ -69,7 +69,7 @@ pub type Serving = Option<PromisedHandle<Worker<Idle>, Serves>>;
 /// Queues an item, and wakes the worker where it is the first on an empty list: a worker that serves takes the rest with it.
 pub fn queue_item<R: Wait>(rt: &R, sender: &mut Sender, item: u32, unparker: &Unparker)
     requires { item < sender.old.layout.items }
-    ensures { HasQueued (item ∷ []) sender.old sender.new }
+    ensures queued { HasQueued (item ∷ []) sender.old sender.new }
 {
     if let Answer::Queued { first: true, .. } = sender.queue(rt, item) {
         unparker.unpark();

@@ -21,7 +21,7 @@ outcome_of-requires c =
       last_complete = answer.complete;
       program_told = answer.program_told;
     } in
-    let sum : c.queued_by-queued.result ≡ queued_sum news = c.queued_by-queued.ensures ∙ ap queued_sum c.deref.ensures.value in
+    let sum : c.queued_by-queued.result ≡ queued_sum news = c.queued_by-queued.ensures.sum ∙ ap queued_sum c.deref.ensures.value in
     subst (λ (k : ℕ). k < 2 ^ 64) (sym sum) (few r.0 r.1 c.args.work c.args.book book last c.args.group.senders.items news c.args.program done)
 
 pub returns : goal.returns
@@ -42,7 +42,7 @@ returns c = λ plan id finished sent.
       last_complete = answer.complete;
       program_told = answer.program_told;
     } in
-    let sum : c.queued_by-queued.result ≡ queued_sum news = c.queued_by-queued.ensures ∙ ap queued_sum c.deref.ensures.value in (
+    let sum : c.queued_by-queued.result ≡ queued_sum news = c.queued_by-queued.ensures.sum ∙ ap queued_sum c.deref.ensures.value in (
       run plan id work c.args.book book last olds news program done answer.ledgers,
       is_run plan id work c.args.book book last olds news program done answer.ledgers answer.made answer.ledgers_are,
       tells_run plan id work c.args.book book last olds news program done answer.ledgers c.in_ok-balance.balance c.queued_by-queued.result

@@ -19,6 +19,8 @@ returns g c =
     let sent = all_sent plan teams t.teams t.count c.in_ok-groups.groups.items c.in_ok-by_queue.by_queue.items c.in_ok-groups.programs.items
     c.in_ok-groups.ensures.groups c.in_ok-by_queue.ensures c.in_ok-groups.ensures.programs in
     record {
-      count = subst (λ (ids : List WorkerId). length ids ≡ plan.queues) (sym workers) (length-map teams.served.items worker_id ∙ t.count);
-      sent = subst (λ (ids : List WorkerId). AllSent plan ids c.in_ok-by_queue.by_queue.items c.in_ok-groups.programs.items) (sym workers) sent;
+      have_run = record {
+        count = subst (λ (ids : List WorkerId). length ids ≡ plan.queues) (sym workers) (length-map teams.served.items worker_id ∙ t.count);
+        sent = subst (λ (ids : List WorkerId). AllSent plan ids c.in_ok-by_queue.by_queue.items c.in_ok-groups.programs.items) (sym workers) sent;
+      };
     }

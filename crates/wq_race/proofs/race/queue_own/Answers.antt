@@ -16,7 +16,7 @@ queue_item-requires g c =
 
 pub loop-item-preserved : goal.loop-item-preserved
 loop-item-preserved g c = queued_next (c.number.result * c.args.own) c.loop-item.item c.args.sender c.loop-item.sender
-    c.queue_item.new.sender c.loop-item.auto.item c.loop-item.invariant c.queue_item.ensures
+    c.queue_item.new.sender c.loop-item.auto.item c.loop-item.invariant c.queue_item.ensures.queued
 
 pub returns : goal.returns
 returns g c =

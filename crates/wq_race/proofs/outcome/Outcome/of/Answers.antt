@@ -56,7 +56,7 @@ returns g c = record {
       let answer = subst (λ (ls : List LedgerState). MatchBool c.is_balanced-is_balanced.result ((totals : Totals) × Balances last ls totals)
       ((fault : Unbalanced) × IsUnbalanced last ls fault)) c.deref-2.ensures.value c.is_balanced-is_balanced.ensures in
       let whole : IsWhole plan _ = record {
-        accepted_is = c.queued_by-accepted.ensures
+        accepted_is = c.queued_by-accepted.ensures.sum
             ∙ (sum_same (λ (s : Known). (sender_counts s.number s.seen).queued) plan.own c.deref.result.now all ∙ product);
         balanced = surely c.is_balanced-is_balanced.result _ _ answer (λ fault. never fault.0 fault.1);
         ran_is = c.from-ran.ensures ∙ (c.count.ensures.ran ∙ ran_all plan c.args.team w xs work book last ledgers over);
