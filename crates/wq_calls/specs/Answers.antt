@@ -25,8 +25,8 @@ pub record IsPushed (s k : ℕ) (is_first is_waking : Bool) (h : List Event) : T
   pub first_is : is_first ≡ first before
   pub wakes_is : is_waking ≡ wakes before
 
--- The queue drained at some moment of a call: some beginning of what is seen after it, not shorter than what was seen before
--- it, is draining.
+-- The queue drained by what was seen before a call, or since: some beginning of what is seen after it, not shorter than what was
+-- seen before it, is draining. So the drain may be older than the call, where its seat had not seen all that had happened.
 abbrev pub HasMetDrain : List Event → List Event → Type 0
 HasMetDrain before after = (moment : ℕ) × (length before ≤ moment) × IsDraining (take moment after)
 

@@ -26,7 +26,7 @@ pub record Machine : Type 0 where
   pub words : List ℕ
   pub seats : List Private  -- of each sender
   pub cursor : Option ℕ  -- the number that the owner walks next
-  pub walked : List ℕ  -- the numbers walked since the last take, close or drain, oldest first
+  pub walked : List ℕ  -- the numbers of a walk that goes on, oldest first: at its end they go behind the batch
   pub batch : List ℕ  -- the numbers to begin, oldest first
   pub history : List Event
 

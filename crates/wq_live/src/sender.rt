@@ -173,8 +173,8 @@ impl Sender {
     }
 
     /// Pushes an item that this sender holds, with at most so many tries (`llist_add`, which tries for as long as it
-    /// takes). Where it answers `Contended` it has made no event that marks its start, so the events of other seats that are
-    /// said to pay for the tries may be older than the call.
+    /// takes). Where it answers `Contended` or `Draining` it has made no event that marks its start, so the events of other seats
+    /// that are said to pay for the tries, and the drain, may be older than the call.
     pub fn post(&mut self, item: u32, tries: u32) -> Posted
         requires item { item < self.old.layout.items }
         requires tries { 0 < tries }

@@ -188,9 +188,9 @@ module _ (may : Idle → ℕ → List ℕ → Idle → Type 0) (asks_nothing : (
             (λ (runs : IsRunning b.seen). idle (omega (arith, runs, begun_is, ended_is))) m,
       )
 
-  pub leaves_on : (log : Idle → List ℕ) (limit : ℕ) (a b : WorkerState Idle) (left : ℕ) → a.number ≢ owner_seat → ¬ IsRunning a.seen
-      → IsLegal a.layout a.seen → LeavesUnfinished log may limit a b left → HasGoneOn a b
-  leaves_on log limit a b left not idle legal l =
+  pub leaves_on : (limit : ℕ) (a b : WorkerState Idle) (left : ℕ) → a.number ≢ owner_seat → ¬ IsRunning a.seen
+      → IsLegal a.layout a.seen → LeavesUnfinished may limit a b left → HasGoneOn a b
+  leaves_on limit a b left not idle legal l =
       let first = closes_plain a l.closed not idle l.closes in
       let rest = row_plain IsExecution limit l.closed b (subst (λ (s : ℕ). s ≢ owner_seat) (sym first.1.same.number_is) not) first.1.idle l.row in
       let all = plain_on first.0 0 a l.closed b first.1 rest in

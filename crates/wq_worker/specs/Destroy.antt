@@ -51,10 +51,11 @@ module _ {W : Type 0} (may : W → ℕ → List ℕ → W → Type 0) (gives : W
 abbrev pub HasRunAccepted : {W : Type 0} → (W → List ℕ) → W → BookState → Type 0
 HasRunAccepted log work book = log work ≡ items_among book.layout (accepted book.seen)
 
--- where nothing is given back to the work, which logs the items that it has run
+-- where nothing is given back to the work: `log` says which items it has run
 module _ {W : Type 0} (log : W → List ℕ) (may : W → ℕ → List ℕ → W → Type 0) where
   abbrev pub Destroys : ℕ → WorkerState W → W → BookState → Type 0
   Destroys = DestroysBy (HasRunAccepted log) may stays
 
+module _ {W : Type 0} (may : W → ℕ → List ℕ → W → Type 0) where
   abbrev pub LeavesUnfinished : ℕ → WorkerState W → WorkerState W → ℕ → Type 0
   LeavesUnfinished = LeavesUnfinishedBy may stays

@@ -409,7 +409,7 @@ impl<W: Work> Worker<W> {
     /// (`destroy_workqueue`). Where more is left it gives the worker back.
     pub fn destroy(mut self, limit: u32) -> Result<(W, Book), Unfinished<Worker<W>>>
         ensures outcome { MatchResult result (λ done. Destroys W.log W.may limit self done.0 done.1)
-            (λ unfinished. LeavesUnfinished W.log W.may limit self unfinished.worker unfinished.left) }
+            (λ unfinished. LeavesUnfinished W.may limit self unfinished.worker unfinished.left) }
         ensures done { IsComplete self.seen → IsOk result }
     {
         close_where_unclosed::<Worker<W>>(&mut self);

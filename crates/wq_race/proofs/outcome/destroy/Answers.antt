@@ -9,7 +9,7 @@ loop-init g c = goes_still c.args.worker c.requires.idle c.requires.legal
 pub loop-preserved : goal.loop-preserved
 loop-preserved g c =
     let now = c.loop.worker in let gone = c.loop.invariant in
-    goes_on c.args.worker now c.in-Err.unfinished.worker gone (leaves_on _ (λ w k f v none. none) (λ w. w.ran.items) 4294967295 now
+    goes_on c.args.worker now c.in-Err.unfinished.worker gone (leaves_on _ (λ w k f v none. none) 4294967295 now
     c.in-Err.unfinished.worker _ (λ is. c.requires.seat (sym gone.same.number_is ∙ is)) gone.idle gone.legal c.in-Err.ensures.outcome)
 
 pub returns-in-Ok : goal.returns-in-Ok
