@@ -66,36 +66,36 @@ module _ (xs : List Event) (n : ℕ) (v w : List Event) (g : Grows owner_seat xs
   phase_on = λ i. if closed_on i then Closed else (if shut_on i then Draining else Open)
 
 -- the event closes the queue, or begins or ends a drain
-abbrev pub is_turn : Event → Bool
-is_turn event.Close = true
-is_turn event.Drain = true
-is_turn event.Resume = true
-is_turn _ = false
+abbrev pub is_phase_change : Event → Bool
+is_phase_change event.Close = true
+is_phase_change event.Drain = true
+is_phase_change event.Resume = true
+is_phase_change _ = false
 
-no_turn : (e : Event) → is_turn e ≡ false → (is_resume e ≡ false) × (is_drain e ≡ false) × (is_close e ≡ false)
-no_turn event.Close is = absurd (cc is)
-no_turn event.Drain is = absurd (cc is)
-no_turn event.Resume is = absurd (cc is)
-no_turn _ is = (refl, refl, refl)
+no_phase_change : (e : Event) → is_phase_change e ≡ false → (is_resume e ≡ false) × (is_drain e ≡ false) × (is_close e ≡ false)
+no_phase_change event.Close is = absurd (cc is)
+no_phase_change event.Drain is = absurd (cc is)
+no_phase_change event.Resume is = absurd (cc is)
+no_phase_change _ is = (refl, refl, refl)
 
-none_turns : (e : Event) (es : List Event) → count_by is_turn (e ∷ es) ≡ 0 → (is_turn e ≡ false) × (count_by is_turn es ≡ 0)
-none_turns e es none = go (is_turn e) refl
+no_phase_changes : (e : Event) (es : List Event) → count_by is_phase_change (e ∷ es) ≡ 0 → (is_phase_change e ≡ false) × (count_by is_phase_change es ≡ 0)
+no_phase_changes e es none = go (is_phase_change e) refl
   where
-    go : (b : Bool) → is_turn e ≡ b → (is_turn e ≡ false) × (count_by is_turn es ≡ 0)
-    go true is = let one : ◌≡◌ {A = ℕ} (cond (is_turn e) 1 0) 1 = ap (λ (b : Bool). cond b 1 0) is in
-        absurd (omega (arith, none, one, sum_by-cons (λ x. cond (is_turn x) 1 0) e es))
-    go false is = (is, omega (arith, none, sum_by-cons (λ x. cond (is_turn x) 1 0) e es))
+    go : (b : Bool) → is_phase_change e ≡ b → (is_phase_change e ≡ false) × (count_by is_phase_change es ≡ 0)
+    go true is = let one : ◌≡◌ {A = ℕ} (cond (is_phase_change e) 1 0) 1 = ap (λ (b : Bool). cond b 1 0) is in
+        absurd (omega (arith, none, one, sum_by-cons (λ x. cond (is_phase_change x) 1 0) e es))
+    go false is = (is, omega (arith, none, sum_by-cons (λ x. cond (is_phase_change x) 1 0) e es))
 
 -- where the owner does none of these, the queue stays as it is
-still : (v xs : List Event) → count_by is_turn xs ≡ 0 → (closed (v ++ xs) ≡ closed v) × (shut (v ++ xs) ≡ shut v)
+still : (v xs : List Event) → count_by is_phase_change xs ≡ 0 → (closed (v ++ xs) ≡ closed v) × (shut (v ++ xs) ≡ shut v)
 still v [] none = (ap closed (append-nil v), ap shut (append-nil v))
 still v (x ∷ xs) none =
-    let first = none_turns x xs none in let quiet = no_turn x first.0 in let rest = still (v ++ x ∷ []) xs first.1 in (
+    let first = no_phase_changes x xs none in let quiet = no_phase_change x first.0 in let rest = still (v ++ x ∷ []) xs first.1 in (
       ap closed (sym (append_assoc v (x ∷ []) xs)) ∙ (rest.0 ∙ closed_push_no v x quiet.2),
       ap shut (sym (append_assoc v (x ∷ []) xs)) ∙ (rest.1 ∙ shut_quiet v x quiet.0 quiet.1 quiet.2),
     )
 
-module _ (xs : List Event) (n : ℕ) (v w : List Event) (g : Grows owner_seat xs n v w) (none : count_by is_turn xs ≡ 0) where
+module _ (xs : List Event) (n : ℕ) (v w : List Event) (g : Grows owner_seat xs n v w) (none : count_by is_phase_change xs ≡ 0) where
   pub closed_quiet : closed w ≡ closed v
   closed_quiet = closed_on xs n v w g ∙ (still v xs none).0
 

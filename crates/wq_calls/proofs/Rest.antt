@@ -16,7 +16,7 @@ use Rattle.wq_table.specs.Chair.{IsOwner}
 use Rattle.wq_calls.specs.Rest.{HasRested, MayNotRest}
 use Rattle.wq_calls.proofs.Tells.{Tells, tells, seen_after}
 use Rattle.wq_calls.proofs.Owned.{running_quiet, counts_quiet}
-use Rattle.wq_calls.proofs.Phases.{is_turn, phase_quiet}
+use Rattle.wq_calls.proofs.Phases.{is_phase_change, phase_quiet}
 use Rattle.wq_calls.proofs.OwnerTells.{makes_stands, stands_batch, pair_owner, owner_grows, owner_sees, owner_batch}
 use Rattle.wq_calls.proofs.Linking.{has_row_after}
 use Rattle.wq_calls.proofs.Resting.{quiet_idle, open_stays, unclosed_stays}
@@ -94,7 +94,7 @@ module _ (s : Inside) (q : Standing) (now : Known) (word : ℕ) (view : owner_vi
   stage : q.part.stage ≡ Owns None [] (kept_batch s.chair.part.stage)
   stage = rest_stage word s.chair.part q.part (kept_batch s.chair.part.stage) o.has_row.stage_is makes
 
-  owns : (xs : List Event) → Tells xs s.chair.part q.part → begun xs ≡ [] → ended xs ≡ [] → count_by is_turn xs ≡ 0 → count_by is_chain xs ≡ 0
+  owns : (xs : List Event) → Tells xs s.chair.part q.part → begun xs ≡ [] → ended xs ≡ [] → count_by is_phase_change xs ≡ 0 → count_by is_chain xs ≡ 0
       → count_by is_chain_busy xs ≡ 0 → OwnsQueue (record s { chair = q })
   owns xs tells b e c chained busy =
       let v = s.chair.part.seen in let w = q.part.seen in let g = owner_grows xs 0 s (record s { chair = q }) o tells in record {

@@ -17,7 +17,7 @@ use Rattle.wq_words.proofs.Running.{running_from_rests}
 use Rattle.wq_calls.specs.Laws.{queued_number, pushed_number, IsStillEnd}
 use Rattle.wq_calls.proofs.Growing.{grows_own, grows_mine}
 use Rattle.wq_calls.proofs.Owned.{running_quiet}
-use Rattle.wq_calls.proofs.Phases.{is_turn, closed_quiet, shut_still}
+use Rattle.wq_calls.proofs.Phases.{is_phase_change, closed_quiet, shut_still}
 use Rattle.wq_words.proofs.Closed.{closed_from_open, shut_from_open}
 use Rattle.wq_calls.proofs.Final.{final}
 
@@ -41,7 +41,7 @@ closed_stays xs n old new sees closed =
     let more = sum_by-append (λ e. cond (is_close e) 1 0) old.seen sees.grows.new in
     omega (arith, closed, more, ap (λ (h : List Event). count_by is_close h) sees.grows.is)
 
-module _ (xs : List Event) (n : ℕ) (old new : Known) (mine : old.number ≡ owner_seat) (sees : Sees xs n old new) (none : count_by is_turn xs ≡ 0) where
+module _ (xs : List Event) (n : ℕ) (old new : Known) (mine : old.number ≡ owner_seat) (sees : Sees xs n old new) (none : count_by is_phase_change xs ≡ 0) where
   grows : Grows owner_seat xs n old.seen new.seen
   grows = grows_mine xs n old new mine sees
 

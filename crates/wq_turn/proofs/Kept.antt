@@ -30,7 +30,7 @@ module _ {W : Type 0} (a b : WorkerState W) (not : ¬ IsDraining a.seen) where
   keeps on = not_draining_on a.seen b.seen on (back a.seen b.seen on) not
 
   taken : Moves (taking a.seen) 0 a b → SamePhase a.seen b.seen
-  taken moved = (owner_of_both a.number (taking a.seen) 0 a.seen b.seen moved.adds).phase (quiet_taking a.seen).turns_none
+  taken moved = (owner_of_both a.number (taking a.seen) 0 a.seen b.seen moved.adds).phase (quiet_taking a.seen).phase_changes_none
 
   pub ready_not_draining : (r : Option ℕ) → MatchOption r (IsUnready a b) (λ k. IsReady a k b) → ¬ IsDraining b.seen
   ready_not_draining None (owed runs same) = keeps (subst (λ (w : WorkerState W). SamePhase a.seen w.seen) (sym same) (phase_still a.seen))

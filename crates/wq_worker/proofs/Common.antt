@@ -7,7 +7,7 @@ pub use Rattle.std.proofs.lemmas.List.{append-nil}
 pub use Rattle.std.proofs.lemmas.List.Elements.{filter_map-append}
 pub use Rattle.std.specs.Prelude.{count_by}
 pub use Rattle.wq_ledger.specs.Totals.{own_totals}
-pub use Rattle.wq_calls.proofs.Phases.{is_turn}
+pub use Rattle.wq_calls.proofs.Phases.{is_phase_change}
 pub use Rattle.wq_live.specs.Answers.{IsContended}
 pub use Rattle.wq_live.specs.Batch.{batch, next_of}
 pub use Rattle.wq_live.specs.Known.{Known, Sees, new_senders}

@@ -20,13 +20,13 @@ quiet_as xs es is q = subst IsQuiet (sym is) q
 
 pub quiet_queues : (n s : ℕ) (b : Bool) (k : ℕ) (es : List Event) → Queues n s b k es → IsQuiet es
 quiet_queues n s b k es (passed h is) = quiet_as [] es is quiet_none
-quiet_queues n s b k es (pushed h i is) = quiet_as (Hold s k ∷ Push s k ∷ []) es is (record { begun_none = refl; ended_none = refl; turns_none = refl })
-quiet_queues n s b k es (busy h i is) = quiet_as (Busy s k ∷ []) es is (record { begun_none = refl; ended_none = refl; turns_none = refl })
-quiet_queues n s b k es (chained h i is) = quiet_as (Chain k ∷ []) es is (record { begun_none = refl; ended_none = refl; turns_none = refl })
-quiet_queues n s b k es (chain_busy h i is) = quiet_as (ChainBusy k ∷ []) es is (record { begun_none = refl; ended_none = refl; turns_none = refl })
+quiet_queues n s b k es (pushed h i is) = quiet_as (Hold s k ∷ Push s k ∷ []) es is (record { begun_none = refl; ended_none = refl; phase_changes_none = refl })
+quiet_queues n s b k es (busy h i is) = quiet_as (Busy s k ∷ []) es is (record { begun_none = refl; ended_none = refl; phase_changes_none = refl })
+quiet_queues n s b k es (chained h i is) = quiet_as (Chain k ∷ []) es is (record { begun_none = refl; ended_none = refl; phase_changes_none = refl })
+quiet_queues n s b k es (chain_busy h i is) = quiet_as (ChainBusy k ∷ []) es is (record { begun_none = refl; ended_none = refl; phase_changes_none = refl })
 
 pub quiet_contended : (s k : ℕ) → IsQuiet (contended_of s k)
-quiet_contended s k = record { begun_none = refl; ended_none = refl; turns_none = refl }
+quiet_contended s k = record { begun_none = refl; ended_none = refl; phase_changes_none = refl }
 
 pub quiet_follows : (n s : ℕ) (b : Bool) (ks : List ℕ) (es : List Event) → Follows n s b ks es → IsQuiet es
 quiet_follows n s b [] es is = quiet_as [] es is quiet_none

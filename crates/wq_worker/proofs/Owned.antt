@@ -1,11 +1,11 @@
 -- What has begun and ended, and whether the queue is shut, changes by the owner's events alone.
 use Rattle.wq_worker.proofs.Common.{◌≡◌, ℕ, ◌+◌, false, ◌==◌, List, [], ◌++◌, sym, refl, ap, ◌∙◌, arith, or_parts, count_by, append-nil}
 use Rattle.wq_worker.proofs.Common.{filter_map-append, Event, begun_by, begun, ended, running, owner_seat, seat_of, own, Grows, count_by-append}
-use Rattle.wq_worker.proofs.Common.{is_ours, Adds, is_turn}
+use Rattle.wq_worker.proofs.Common.{is_ours, Adds, is_phase_change}
 use Rattle.wq_words.specs.History.{ended_by, is_close, is_drain}
 use Rattle.wq_words.proofs.Seen.{filter-filter, own-own, begun_same, ended_same, closed_count, count_own, count_same}
 use Rattle.wq_calls.proofs.Owned.{begun_on, ended_on, closes_on}
-use Rattle.wq_worker.proofs.Phase.{turns_own, SamePhase, drains_on, phase_grown}
+use Rattle.wq_worker.proofs.Phase.{phase_change_own, SamePhase, drains_on, phase_grown}
 use Rattle.wq_words.proofs.ShutOwn.{drain_own}
 
 -- from v to w the owner's events among these were added
@@ -15,7 +15,7 @@ pub record OwnerAdds (es v w : List Event) : Type 0 where
   pub closes : count_by is_close w ≡ count_by is_close v + count_by is_close es
   pub drains : count_by is_drain w ≡ count_by is_drain v + count_by is_drain es
   -- where they hold neither a close nor a drain nor a resume
-  pub phase : count_by is_turn es ≡ 0 → SamePhase v w
+  pub phase : count_by is_phase_change es ≡ 0 → SamePhase v w
 
 pub owner_grows : (es : List Event) (n : ℕ) (v w : List Event) → Grows owner_seat es n v w → OwnerAdds es v w
 owner_grows es n v w g = record {
@@ -48,23 +48,23 @@ owner_of_both s es n v w a =
       ended_is = ended_on mine 0 v w g ∙ ap (λ (z : List ℕ). ended v ++ z) (ended_same es mine (own-own owner_seat es));
       closes = omega (arith, closes_on mine 0 v w g, closed_count es mine (own-own owner_seat es));
       drains = omega (arith, drains_on mine 0 v w g, count_same is_drain owner_seat drain_own es mine (own-own owner_seat es));
-      phase = λ none. phase_grown mine 0 v w g (sym (count_own is_turn owner_seat turns_own es) ∙ none);
+      phase = λ none. phase_grown mine 0 v w g (sym (count_own is_phase_change owner_seat phase_change_own es) ∙ none);
     }
 
 -- nothing begins or ends by these, and they hold neither a close nor a drain nor a resume
 pub record IsQuiet (es : List Event) : Type 0 where
   pub begun_none : begun es ≡ []
   pub ended_none : ended es ≡ []
-  pub turns_none : count_by is_turn es ≡ 0
+  pub phase_changes_none : count_by is_phase_change es ≡ 0
 
 pub quiet_none : IsQuiet []
-quiet_none = record { begun_none = refl; ended_none = refl; turns_none = refl }
+quiet_none = record { begun_none = refl; ended_none = refl; phase_changes_none = refl }
 
 pub quiet_append : (xs ys : List Event) → IsQuiet xs → IsQuiet ys → IsQuiet (xs ++ ys)
 quiet_append xs ys a b = record {
   begun_none = filter_map-append begun_by xs ys ∙ (ap (λ (z : List ℕ). z ++ begun ys) a.begun_none ∙ b.begun_none);
   ended_none = filter_map-append ended_by xs ys ∙ (ap (λ (z : List ℕ). z ++ ended ys) a.ended_none ∙ b.ended_none);
-  turns_none = omega (arith, count_by-append is_turn xs ys, a.turns_none, b.turns_none);
+  phase_changes_none = omega (arith, count_by-append is_phase_change xs ys, a.phase_changes_none, b.phase_changes_none);
 }
 
 -- what the owner knows is as before
@@ -78,4 +78,4 @@ pub quiet_stays : (es v w : List Event) → IsQuiet es → OwnerAdds es v w → 
 quiet_stays es v w q o =
     let b : begun w ≡ begun v = o.begun_is ∙ (ap (λ (z : List ℕ). begun v ++ z) q.begun_none ∙ append-nil (begun v)) in
     let e : ended w ≡ ended v = o.ended_is ∙ (ap (λ (z : List ℕ). ended v ++ z) q.ended_none ∙ append-nil (ended v)) in
-    record { begun_same = b; ended_same = e; running_same = rw (b, e) refl; phase = o.phase q.turns_none }
+    record { begun_same = b; ended_same = e; running_same = rw (b, e) refl; phase = o.phase q.phase_changes_none }

@@ -1,6 +1,6 @@
 -- Whether a queue takes pushes changes by closes, drains and resumes alone, which are the owner's.
 use Rattle.wq_worker.proofs.Common.{◌≡◌, ℕ, ◌+◌, Bool, true, false, List, sym, refl, ◌∙◌, count_by, Event, Close, Drain, Resume, IsClosed, IsShut}
-use Rattle.wq_worker.proofs.Common.{IsDraining, shut, owner_seat, seat_of, Grows, shut_from_IsShut, IsShut_from_shut, is_turn}
+use Rattle.wq_worker.proofs.Common.{IsDraining, shut, owner_seat, seat_of, Grows, shut_from_IsShut, IsShut_from_shut, is_phase_change}
 use Rattle.std.proofs.Common.{eqb}
 use Rattle.wq_words.specs.History.{is_drain, closed}
 use Rattle.wq_words.proofs.Closed.{closed_from_IsClosed, IsClosed_from_closed, open_from_closed}
@@ -8,11 +8,11 @@ use Rattle.wq_calls.proofs.Counting.{count_on}
 use Rattle.wq_calls.proofs.Phases.{closed_quiet, shut_still as shut_quiet}
 use Rattle.wq_words.proofs.ShutOwn.{drain_own}
 
-pub turns_own : (e : Event) → eqb (seat_of e) owner_seat ≡ false → is_turn e ≡ false
-turns_own Close is = is
-turns_own Drain is = is
-turns_own Resume is = is
-turns_own _ is = refl
+pub phase_change_own : (e : Event) → eqb (seat_of e) owner_seat ≡ false → is_phase_change e ≡ false
+phase_change_own Close is = is
+phase_change_own Drain is = is
+phase_change_own Resume is = is
+phase_change_own _ is = refl
 
 -- whether it takes pushes, and whether it is closed, is as before
 pub record SamePhase (v w : List Event) : Type 0 where
@@ -51,5 +51,5 @@ module _ (es : List Event) (n : ℕ) (v w : List Event) (g : Grows owner_seat es
   drains_on = count_on is_drain owner_seat drain_own es n v w g
 
   -- where the owner neither closes nor drains nor resumes
-  pub phase_grown : count_by is_turn es ≡ 0 → SamePhase v w
+  pub phase_grown : count_by is_phase_change es ≡ 0 → SamePhase v w
   phase_grown none = record { shut_same = shut_quiet es n v w g none; closed_same = closed_quiet es n v w g none }

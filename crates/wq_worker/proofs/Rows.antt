@@ -2,7 +2,7 @@
 use Rattle.wq_worker.proofs.Common.{◌≡◌, ℕ, List, [], ◌∷◌, ◌++◌, sym, refl, ◌∙◌, ap, subst, arith, count_by, Event, End, Drain, Resume, IsClosed}
 use Rattle.wq_worker.proofs.Common.{Some, running, IsShut, IsRunning, IsLegal, IsComplete, HasRunOut, count_by-append, Ran, Item, Barrier, Stop, Nothing, Owing, taking}
 use Rattle.wq_worker.proofs.Common.{contended_of, WorkerState, Moves, stays, EndsBy, OwesBy, owes, RunsBy, RowBy, none, more, IsExecution, Shuts}
-use Rattle.wq_worker.proofs.Common.{drains, Resumes, stays_closed, reopens, is_turn}
+use Rattle.wq_worker.proofs.Common.{drains, Resumes, stays_closed, reopens, is_phase_change}
 use Rattle.wq_worker.specs.State.{IsSameWorker}
 use Rattle.wq_worker.specs.Step.{LeavesRunning, StartsBy, item, other, owed, ends, Runs}
 use Rattle.wq_worker.specs.Rows.{Along, here, onward, GoesOn, RunsSomeBy, full, broken, RunsOutBy, Closes, was_closed, closes, was_shut}
@@ -10,7 +10,7 @@ use Rattle.wq_worker.proofs.Owned.{owner_grown, owner_of_both, quiet_stays}
 use Rattle.wq_worker.proofs.Follow.{quiet_follows, quiet_contended}
 use Rattle.wq_calls.proofs.Phases.{open_then}
 use Rattle.wq_worker.proofs.Phase.{SamePhase, phase_still, phase_on, open_still, unclosed_still, closed_still, shut_still}
-use Rattle.wq_worker.proofs.State.{quiet_taking, turns_taking}
+use Rattle.wq_worker.proofs.State.{quiet_taking, phase_changes_taking}
 
 module _ {X : Type 0} (step : X → X → Type 0) where
   pub one_step : (a b : X) → step a b → Along step a b
@@ -121,20 +121,21 @@ module _ {W : Type 0} (may : W → ℕ → List ℕ → W → Type 0) (gives : W
   runs_by_legal (Owing k) a b t = owes_legal k a b t
 
   -- no step closes, drains or resumes
-  starts_turns_none : (a : WorkerState W) (k : ℕ) (f : List ℕ) (v : W) (es : List Event) → StartsBy may gives a k f v es → count_by is_turn es ≡ 0
-  starts_turns_none a k f v es (item idle low ran is) = ap (count_by is_turn) is ∙ turns_taking a.seen k
-  starts_turns_none a k f v es (other idle high nothing same is) = ap (count_by is_turn) is ∙ turns_taking a.seen k
-  starts_turns_none a k f v es (owed runs left same is) = ap (count_by is_turn) is
+  starts_phase_changes_none : (a : WorkerState W) (k : ℕ) (f : List ℕ) (v : W) (es : List Event)
+      → StartsBy may gives a k f v es → count_by is_phase_change es ≡ 0
+  starts_phase_changes_none a k f v es (item idle low ran is) = ap (count_by is_phase_change) is ∙ phase_changes_taking a.seen k
+  starts_phase_changes_none a k f v es (other idle high nothing same is) = ap (count_by is_phase_change) is ∙ phase_changes_taking a.seen k
+  starts_phase_changes_none a k f v es (owed runs left same is) = ap (count_by is_phase_change) is
 
   ends_phase : (k : ℕ) (a b : WorkerState W) → EndsBy may gives a k b → SamePhase a.seen b.seen
   ends_phase k a b (ends f es fs st told moved rests) =
       (owner_of_both a.number (es ++ (fs ++ End k ∷ [])) 0 a.seen b.seen moved.adds).phase
       (omega (
         arith,
-        starts_turns_none a k f b.work es st,
-        (quiet_follows a.layout.items a.number _ f fs told).turns_none,
-        count_by-append is_turn es (fs ++ End k ∷ []),
-        count_by-append is_turn fs (End k ∷ []),
+        starts_phase_changes_none a k f b.work es st,
+        (quiet_follows a.layout.items a.number _ f fs told).phase_changes_none,
+        count_by-append is_phase_change es (fs ++ End k ∷ []),
+        count_by-append is_phase_change fs (End k ∷ []),
       ))
 
   owes_phase : (k : ℕ) (a b : WorkerState W) → OwesBy may gives a k b → SamePhase a.seen b.seen
@@ -143,18 +144,18 @@ module _ {W : Type 0} (may : W → ℕ → List ℕ → W → Type 0) (gives : W
       (owner_of_both a.number (es ++ (fs ++ last)) a.tries a.seen b.seen moved.adds).phase
       (omega (
         arith,
-        starts_turns_none a k f b.work es st,
-        (quiet_follows a.layout.items a.number _ qs fs told).turns_none,
-        (quiet_contended a.number j).turns_none,
-        count_by-append is_turn es (fs ++ last),
-        count_by-append is_turn fs last,
+        starts_phase_changes_none a k f b.work es st,
+        (quiet_follows a.layout.items a.number _ qs fs told).phase_changes_none,
+        (quiet_contended a.number j).phase_changes_none,
+        count_by-append is_phase_change es (fs ++ last),
+        count_by-append is_phase_change fs last,
       ))
 
   pub runs_by_phase : (r : Ran) (a b : WorkerState W) → RunsBy may gives r a b → SamePhase a.seen b.seen
   runs_by_phase (Item k) a b t = ends_phase t.0 a b t.2
   runs_by_phase (Barrier k) a b t = ends_phase t.0 a b t.2
   runs_by_phase Stop a b t = ends_phase t.0 a b t.2
-  runs_by_phase Nothing a b t = (owner_of_both a.number (taking a.seen) 0 a.seen b.seen t.3.adds).phase (quiet_taking a.seen).turns_none
+  runs_by_phase Nothing a b t = (owner_of_both a.number (taking a.seen) 0 a.seen b.seen t.3.adds).phase (quiet_taking a.seen).phase_changes_none
   runs_by_phase (Owing k) a b t = owes_phase k a b t
 
   pub row_phase : (P : Ran → Type 0) (n : ℕ) (a b : WorkerState W) → RowBy may gives P n a b → SamePhase a.seen b.seen

@@ -1,7 +1,7 @@
 -- A worker's parts after its steps.
 use Rattle.wq_worker.proofs.Common.{◌≡◌, ℕ, ◌<◌, ◌≤◌, arith, Bool, true, false, cond, Option, Some, None, List, [], ◌∷◌, ◌++◌, length, refl, sym, ◌∙◌}
 use Rattle.wq_worker.proofs.Common.{ap, append-nil, filter_map-append, Layout, Event, Begin, begun_by, begun, ended, shut, IsRunning, IsLegal}
-use Rattle.wq_worker.proofs.Common.{KnownPair, next_of, taking, Both, QueuesRest, items_among, count_by, count_by-append, is_turn}
+use Rattle.wq_worker.proofs.Common.{KnownPair, next_of, taking, Both, QueuesRest, items_among, count_by, count_by-append, is_phase_change}
 use Rattle.std.specs.Prelude.{nat_lt}
 use Rattle.std.proofs.lemmas.Bool.{lt-ltb, le-ltb}
 use Rattle.std.proofs.lemmas.List.Elements.{filter-append}
@@ -48,9 +48,9 @@ fit_both xs log tries at follow old new none fit b =
     fit_still log tries at follow at follow old new fit b.legal b.number_is b.layout_is (begun_both xs old new none b) fit.within
 
 quiet_taking_of : (n : Option ℕ) (b : Bool) → IsQuiet (taking_of n b)
-quiet_taking_of (Some k) b = record { begun_none = refl; ended_none = refl; turns_none = refl }
-quiet_taking_of None true = record { begun_none = refl; ended_none = refl; turns_none = refl }
-quiet_taking_of None false = record { begun_none = refl; ended_none = refl; turns_none = refl }
+quiet_taking_of (Some k) b = record { begun_none = refl; ended_none = refl; phase_changes_none = refl }
+quiet_taking_of None true = record { begun_none = refl; ended_none = refl; phase_changes_none = refl }
+quiet_taking_of None false = record { begun_none = refl; ended_none = refl; phase_changes_none = refl }
 
 pub quiet_taking : (h : List Event) → IsQuiet (taking h)
 quiet_taking h = quiet_taking_of (next_of h) (shut h)
@@ -61,8 +61,8 @@ idle_taken old new b idle =
     let a = owner_of_both old.number (taking old.seen) 0 old.seen new.seen b.adds in
     let s = quiet_stays (taking old.seen) old.seen new.seen (quiet_taking old.seen) a in rw (s.begun_same, s.ended_same) idle
 
-pub turns_taking : (h : List Event) (k : ℕ) → count_by is_turn (taking h ++ Begin k ∷ []) ≡ 0
-turns_taking h k = omega (arith, count_by-append is_turn (taking h) (Begin k ∷ []), (quiet_taking h).turns_none)
+pub phase_changes_taking : (h : List Event) (k : ℕ) → count_by is_phase_change (taking h ++ Begin k ∷ []) ≡ 0
+phase_changes_taking h k = omega (arith, count_by-append is_phase_change (taking h) (Begin k ∷ []), (quiet_taking h).phase_changes_none)
 
 pub begun_taking : (h : List Event) (k : ℕ) → begun (taking h ++ Begin k ∷ []) ≡ k ∷ []
 begun_taking h k = filter_map-append begun_by (taking h) (Begin k ∷ []) ∙ ap (λ (z : List ℕ). z ++ k ∷ []) (quiet_taking h).begun_none

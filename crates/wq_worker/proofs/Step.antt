@@ -9,7 +9,7 @@ use Rattle.wq_worker.proofs.Owned.{owner_of_both}
 use Rattle.wq_worker.proofs.Running.{runs_begun, idle_ended}
 use Rattle.wq_worker.proofs.Pair.{both_on}
 use Rattle.wq_worker.proofs.Follow.{advance_stays}
-use Rattle.wq_worker.proofs.State.{turns_taking, begun_taking, ended_taking}
+use Rattle.wq_worker.proofs.State.{phase_changes_taking, begun_taking, ended_taking}
 
 module _ {W : Type 0} where
   abbrev pub state_of : KnownPair → ℕ → List ℕ → W → WorkerState W
@@ -52,7 +52,7 @@ module _ {W : Type 0} (may : W → ℕ → List ℕ → W → Type 0) where
 
   pub shut_still : (a m : WorkerState W) (k : ℕ) → Begins may a k m → shut m.seen ≡ shut a.seen
   shut_still a m k b =
-      ((owner_of_both a.number (taking a.seen ++ Begin k ∷ []) 0 a.seen m.seen b.moves.adds).phase (turns_taking a.seen k)).shut_same
+      ((owner_of_both a.number (taking a.seen ++ Begin k ∷ []) 0 a.seen m.seen b.moves.adds).phase (phase_changes_taking a.seen k)).shut_same
 
   told_before : (a m : WorkerState W) (k : ℕ) (ks : List ℕ) (es : List Event) → Begins may a k m
       → Follows m.layout.items m.number (shut m.seen) ks es → Follows a.layout.items a.number (shut a.seen) ks es
