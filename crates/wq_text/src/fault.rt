@@ -72,11 +72,13 @@ pub enum ParseError {
 }
 
 /// Why a line could not be read.
-#[derive(Drop)]
+#[derive(Debug, Drop, Error)]
 pub enum LineError {
     /// The allocator gave no memory.
+    #[error("memory")]
     Memory,
     /// This is the first thing that is wrong with it.
+    #[error("{0}")]
     Fault(Kind),
 }
 
