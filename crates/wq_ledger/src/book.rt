@@ -33,8 +33,8 @@ impl Model for Ledger {
 }
 
 impl Ledger {
-    /// A sender's number with what it has counted. Who makes one by this call has to show to `balance` that it is of a sender
-    /// that has met the book; those that `meet` gives are.
+    /// A sender's number with what it has counted. Whoever makes one by this call has to show to `balance` that it is of a
+    /// sender that has met the book; those that `meet` gives are.
     pub fn of(number: u32, counts: SenderCounts) -> Ledger
         ensures number { result.number ≡ number }
         ensures counts { result.counts ≡ counts }

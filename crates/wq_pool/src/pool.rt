@@ -127,7 +127,7 @@ impl<K: Station + Drop> PoolOf<K> {
     }
 
     /// Does what the answer of a queueing on this queue asks for: announces the queue where it says `wakes`, and waits while the
-    /// ready queue is full. Who queues calls it with each answer.
+    /// ready queue is full. Whoever queues calls it with each answer.
     ///
     /// # Errors
     /// `NoQueue` exactly where the pool has no queue of this number, whatever the answer; `Full` never.

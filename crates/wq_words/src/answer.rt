@@ -5,10 +5,10 @@
 pub enum Answer {
     /// The number was queued (`queue_work` answers true): it is executed once at most, and has been once a close or a drain
     /// behind it has ended. `first` says that the list was empty (`llist_add` answers true), `wakes` that the queue rested:
-    /// where its owner parks after a rest, who is answered so wakes it.
+    /// where its owner parks after a rest, whoever is answered so wakes it.
     Queued { first: bool, wakes: bool },
-    /// The number was pending already, and nothing was changed (`queue_work` answers false). Who set its bit may yet give it
-    /// back: then it does not run, and who was told this learns nothing of it.
+    /// The number was pending already, and nothing was changed (`queue_work` answers false). Whoever set its bit may yet
+    /// give it back: then it does not run, and whoever was told this learns nothing of it.
     Pending,
     /// The queue is closed. The number is not held by the caller.
     Closed,
