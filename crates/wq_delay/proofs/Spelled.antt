@@ -2,7 +2,7 @@
 use Rattle.wq_delay.proofs.Common.{◌≡◌, ℕ, zero, suc, ◌+◌, ◌-◌, ◌<◌, Bool, true, false, cond, ◌≢◌, List, [], ◌∷◌, is_some, nat_lt, ◌==◌, Some, None, Option}
 use Rattle.wq_delay.proofs.Common.{sym, refl, ap, ◌∙◌, subst, arith, eqb-true, nat_tests, AllByRecursion, Entry, IsOrdered, on_table, IsBefore, all-more}
 use Rattle.wq_delay.proofs.Common.{first_false, second_false, all_by, Place, place_in, entry_at, place_at, entries_of, place_of, AreApart, AreRows, same_Some}
-use Rattle.wq_delay.specs.Rows.{goes_before, slotted, with_place, entries_from}
+use Rattle.wq_delay.specs.Rows.{is_before, slotted, with_place, entries_from}
 use Rattle.wq_delay.proofs.Table.{place_some, put_by}
 use Rattle.wq_words.proofs.Cases.{none_told}
 
@@ -96,21 +96,21 @@ pub place_of-slotted : (j : ℕ) (e : Entry) (es : List Entry) → on_table e.it
     → place_of j (slotted e es) ≡ cond (j == e.item) (Some (place_at e.due e.arming)) (place_of j es)
 place_of-slotted j e [] off = refl
 place_of-slotted j e (f ∷ fs) off =
-    put_by (goes_before e f) j e f fs (slotted e fs) (first_false _ _ off) (place_of-slotted j e fs (second_false _ _ off))
+    put_by (is_before e f) j e f fs (slotted e fs) (first_false _ _ off) (place_of-slotted j e fs (second_false _ _ off))
 
 all_slotted : (P : Entry → Type 0) (e : Entry) (es : List Entry) → P e → AllByRecursion P es → AllByRecursion P (slotted e es)
 all_slotted P e [] p all = (p, tt)
-all_slotted P e (f ∷ fs) p all = all_by P (goes_before e f) e (f ∷ fs) (f ∷ slotted e fs) p all (all.0, all_slotted P e fs p all.1)
+all_slotted P e (f ∷ fs) p all = all_by P (is_before e f) e (f ∷ fs) (f ∷ slotted e fs) p all (all.0, all_slotted P e fs p all.1)
 
 ordered_slotted : (e : Entry) (es : List Entry) → IsOrdered es → on_table e.item es ≡ false → AllByRecursion (λ f. e.arming ≢ f.arming) es
     → IsOrdered (slotted e es)
 ordered_slotted e [] ordered off apart = (tt, refl, tt)
-ordered_slotted e (f ∷ fs) ordered off apart = by (goes_before e f) refl (ordered_slotted e fs ordered.2 (second_false _ _ off) apart.1)
+ordered_slotted e (f ∷ fs) ordered off apart = by (is_before e f) refl (ordered_slotted e fs ordered.2 (second_false _ _ off) apart.1)
   where
-    before : goes_before e f ≡ true → IsBefore e f
+    before : is_before e f ≡ true → IsBefore e f
     before is = grind (arith, nat_tests)
 
-    after : goes_before e f ≡ false → IsBefore f e
+    after : is_before e f ≡ false → IsBefore f e
     after is = let a = apart.0 in (grind (arith, nat_tests), λ same. grind (arith, nat_tests))
 
     away : on_table f.item (slotted e fs) ≡ false
@@ -120,7 +120,7 @@ ordered_slotted e (f ∷ fs) ordered off apart = by (goes_before e f) refl (orde
         off_place f.item (slotted e fs) (place_of-slotted f.item e fs (second_false (e.item == f.item) (on_table e.item fs) off)
         ∙ (ap (λ (z : Bool). cond z (Some (place_at e.due e.arming)) (place_of f.item fs)) other ∙ place_off f.item fs ordered.1))
 
-    by : (b : Bool) → goes_before e f ≡ b → IsOrdered (slotted e fs) → IsOrdered (cond b (e ∷ f ∷ fs) (f ∷ slotted e fs))
+    by : (b : Bool) → is_before e f ≡ b → IsOrdered (slotted e fs) → IsOrdered (cond b (e ∷ f ∷ fs) (f ∷ slotted e fs))
     by true is rest =
         let low = before is in (
           (

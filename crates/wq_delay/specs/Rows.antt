@@ -36,14 +36,14 @@ place_in places k = slice_index_or places k None
 abbrev pub SaysPlace : List (Option Place) → Entry → Type 0
 SaysPlace places e = place_in places e.item ≡ Some (place_at e.due e.arming)
 
--- e goes out before f
-abbrev pub goes_before : Entry → Entry → Bool
-goes_before e f = nat_lt e.due f.due || (e.due == f.due && nat_lt e.arming f.arming)
+-- e goes out before f, as a test (`IsBefore` of `wq_words` is the fact)
+abbrev pub is_before : Entry → Entry → Bool
+is_before e f = nat_lt e.due f.due || (e.due == f.due && nat_lt e.arming f.arming)
 
 -- e among entries in order
 abbrev pub slotted : Entry → List Entry → List Entry
 slotted e [] = e ∷ []
-slotted e (f ∷ fs) = if goes_before e f then e ∷ f ∷ fs else f ∷ slotted e fs
+slotted e (f ∷ fs) = if is_before e f then e ∷ f ∷ fs else f ∷ slotted e fs
 
 abbrev pub with_place : ℕ → Option Place → List Entry → List Entry
 with_place k None es = es
