@@ -121,7 +121,7 @@ fn read_schedule(alloc: Global, text: &[u8]) -> Result<(Layout, Vec<(Seat, Step)
 pub fn parse_steps(alloc: Global, text: &[u8]) -> Result<Schedule, ParseError>
     ensures spells { IfOk result (λ schedule. Spells (schedule_lines text.now) text.now (schedule_layout schedule) (turns_of schedule)) }
     ensures refused { IfRefused result (IsRefusal (schedule_lines text.now) text.now) }
-    ensures exact { HasOneOutcome (schedule_lines text.now) text.now }
+    ensures one { HasOneOutcome (schedule_lines text.now) text.now }
 {
     let (layout, turns) = read_schedule(alloc, text)?;
     Ok(Schedule::new(layout, turns))

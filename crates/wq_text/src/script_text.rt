@@ -122,7 +122,7 @@ fn read_script(alloc: Global, text: &[u8]) -> Result<(Layout, Vec<Command>), Par
 pub fn parse(alloc: Global, text: &[u8]) -> Result<Script, ParseError>
     ensures spells { IfOk result (λ script. Spells (script_lines text.now) text.now (layout_of script) (commands_of script)) }
     ensures refused { IfRefused result (IsRefusal (script_lines text.now) text.now) }
-    ensures exact { HasOneOutcome (script_lines text.now) text.now }
+    ensures one { HasOneOutcome (script_lines text.now) text.now }
 {
     let (layout, commands) = read_script(alloc, text)?;
     Ok(Script::new(layout, commands))
