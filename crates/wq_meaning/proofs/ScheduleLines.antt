@@ -11,7 +11,7 @@ use Rattle.wq_machine.specs.declared.refusal.StepError.{StepError}
 use Rattle.wq_machine.specs.declared.refusal.StepError.TheVariants as refusal
 use Rattle.wq_meaning.specs.Replies.{made_text}
 use Rattle.wq_meaning.specs.Report.{line}
-use Rattle.wq_meaning.specs.ScheduleHistory.{Passes}
+use Rattle.wq_meaning.specs.ScheduleHistory.{Passes, AllPass}
 
 -- a step of a seat and of numbers of the queue that is refused, and not for want of memory, is not enabled
 pub not_enabled : (m : Machine) (seat : Seat) (step : Step) (why : StepError) → IsPlaced m.layout seat step → IsRefused m seat step why
@@ -56,6 +56,16 @@ output_whole layout turns left m out text none so_far whole =
 pub written : (m : Machine) (turn : Turn) (n : Machine) → Passes m turn n → (text : List ℕ) × Gives m turn n text
 written m turn n (inl made) = (line (made_text m.layout turn.1 (reply_to m turn.0 turn.1)), inl (made.0, made.1, refl))
 written m turn n (inr over) = (line (codes "not enabled"), inr (over.0, over.1, refl))
+
+-- and turns of which something is written lead to where they lead
+passes_given : (m : Machine) (turn : Turn) (n : Machine) (text : List ℕ) → Gives m turn n text → Passes m turn n
+passes_given m turn n text (inl made) = inl (made.0, made.1)
+passes_given m turn n text (inr over) = inr (over.0, over.1)
+
+pub all_pass : (turns : List Turn) (m n : Machine) (text : List ℕ) → AllGive m turns n text → AllPass m turns n
+all_pass [] m n text given = given.0
+all_pass (turn ∷ turns) m n text (next, first, rest, gives, given, whole) =
+    (next, passes_given m turn next first gives, all_pass turns next n rest given)
 
 one_gives : (m : Machine) (turn : Turn) (n p : Machine) (text other : List ℕ) → Gives m turn n text → Gives m turn p other → (n ≡ p) × (text ≡ other)
 one_gives m turn n p text other (inl made) (inl again) = (made.1 ∙ sym again.1, made.2 ∙ sym again.2)

@@ -5,7 +5,7 @@ use Rattle.std.proofs.Math.ListN.{drop_of_length-le}
 use Rattle.wq_core.specs.declared.step.Seat.TheVariants.{Sender}
 use Rattle.wq_core.specs.declared.step.Step.TheVariants.{Hold}
 use Rattle.wq_meaning.specs.ScheduleHistory.{Passes}
-use Rattle.wq_meaning.proofs.ScheduleLines.{continues_opening, continues_behind, given_whole, written}
+use Rattle.wq_meaning.proofs.ScheduleLines.{continues_opening, continues_behind, given_whole, written, all_pass}
 use Rattle.wq_meaning.proofs.schedule_history.replayed.Goals as goal
 
 pub loop-seat-preserved : goal.loop-seat-preserved
@@ -28,11 +28,10 @@ loop-seat-preserved c =
 pub returns-clause-passed : goal.returns-clause-passed
 returns-clause-passed c =
     let turns : List Turn = c.args.schedule.now.turns.items in
-    let before = c.loop-seat.invariant.told in (
-      before.0,
-      given_whole c.args.schedule.now.layout turns _ c.loop-seat.core before.0
-          (drop_of_length-le turns (omega (arith, ap length c.turns-seat-items.ensures.value))) before.1,
-    )
+    let before = c.loop-seat.invariant.told in
+    all_pass turns (opening c.args.schedule.now.layout) c.loop-seat.core before.0
+    (given_whole c.args.schedule.now.layout turns _ c.loop-seat.core before.0
+    (drop_of_length-le turns (omega (arith, ap length c.turns-seat-items.ensures.value))) before.1)
 
 pub try_step-requires : goal.try_step-requires
 try_step-requires c =
