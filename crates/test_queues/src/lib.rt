@@ -22,6 +22,8 @@ mod own_threads;
 #[cfg(test)]
 mod patience;
 #[cfg(test)]
+mod seat_error;
+#[cfg(test)]
 mod seats;
 #[cfg(test)]
 mod values;

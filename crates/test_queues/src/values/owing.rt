@@ -6,12 +6,14 @@ use super::reading::queue_once;
 use super::worker::{destroy, new_worker, take_last};
 use crate::balance::balance_values_met;
 use crate::expect::expect_same;
+use crate::patience::Patience;
 use std::alloc::Global;
 use std::process::Abort;
 use std::sync::atomic::AtomicU64;
 use std::sync::atomic::Ordering::SeqCst;
 use std::sync::{Arc, Wait};
 use std::thread::{Threads, join_mut};
+use std::time::Clock;
 use wq_value_worker::{ValueFollow, ValueWork, ValueWorker};
 use wq_values::ValueSender;
 use wq_worker::Ran;
@@ -219,8 +221,8 @@ fn run_disturbed<R: Threads + Wait + Sync, W: ValueWork<Share> + Send>(
     owed
 }
 
-/// Runs beside two senders again and again until an execution was owed. Whether one was.
-fn run_until_owing<R: Threads + Wait + Sync, W: ValueWork<Share> + Send>(
+/// Runs beside two senders again and again until an execution was owed, for as long as the test has patience. Whether one was.
+fn run_until_owing<R: Clock + Threads + Wait + Sync, W: ValueWork<Share> + Send>(
     rt: &R,
     worker: &mut ValueWorker<Share, W>,
     first: &mut ValueSender<Share>,
@@ -230,9 +232,13 @@ fn run_until_owing<R: Threads + Wait + Sync, W: ValueWork<Share> + Send>(
     ensures worker { worker.new.worker.queue ≡ worker.old.worker.queue }
     ensures senders { (first.new.known.queue ≡ first.old.known.queue) × (second.new.known.queue ≡ second.old.known.queue) }
 {
-    for _ in 0..100u32 {
+    let patience = Patience::begin(rt);
+    for _ in 0..u32::MAX {
         if run_disturbed(rt, worker, first, second, most) > 0 {
             return true;
+        }
+        if patience.is_over(rt) {
+            return false;
         }
     }
     false
@@ -269,6 +275,24 @@ fn contended_pair_goes_on(rt: HostRuntime) {
         totals.executed,
     );
     assert!(rt; totals.contended > 0);
+}
+
+/// A worker that owes an execution is ready for no number, though one waits, and is ready for one once that execution has ended.
+#[test]
+fn owing_worker_is_not_ready(rt: HostRuntime) {
+    let shared = Arc::new(rt.alloc(), 7u32).expect(&rt, "a value");
+    let Disturbed {
+        mut worker,
+        mut first,
+        mut second,
+    } = new_disturbed(&rt, rt.alloc(), &shared);
+    let is_owing = run_until_owing(&rt, &mut worker, &mut first, &mut second, 1);
+    assert!(rt; is_owing);
+    queue_first(&mut second, 50);
+    expect_same(&rt, worker.ready(), None);
+    let ended = worker.run_one();
+    assert!(rt; matches!(ended, Ran::Item(_)));
+    assert!(rt; worker.ready().is_some());
 }
 
 /// A worker that goes with an execution owed drops the pairs that it has not queued, and each once.

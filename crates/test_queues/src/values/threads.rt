@@ -82,8 +82,8 @@ fn queue_all<R: Abort>(
     queued
 }
 
-/// Executes what comes until it has executed so many items, and appends what it was handed, in order. False where that is not all
-/// that it was handed, or where nothing comes for as long as the test has patience.
+/// Executes what comes until so many values were handed to it in all, and appends each with its item, in order. False where a number
+/// came without a value, where there was no memory to append one, and where nothing waits once the test's patience is over.
 fn execute_until<R: Clock>(
     rt: &R,
     owner: &mut ValueOwner<Counted>,
