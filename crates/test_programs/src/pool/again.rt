@@ -4,7 +4,7 @@ ghost use Rattle.wq_ready.specs.Known.{IsCallerOf};
 
 use crate::expect::expect_same;
 use crate::pool::overlap::Meeting;
-use crate::pool::serving::is_flushed;
+use crate::pool::serving::{is_flushed, queue_with_barrier};
 use crate::pool::team::{Guest, Logging, empty, finish_all, new_pool_for};
 use std::alloc::Global;
 use std::process::Abort;
@@ -69,12 +69,7 @@ fn queue_on_each<R: Abort + Wait>(
 ) {
     let mut queue = 0u32;
     for sender in senders.iter_mut() {
-        assert!(rt; item < sender.layout().items);
-        let answer = sender.queue(rt, item);
-        guest.wake(rt, queue, answer);
-        assert!(rt; 0 < sender.layout().barriers);
-        let answer = sender.flush_begin(0, u32::MAX);
-        guest.wake(rt, queue, answer);
+        queue_with_barrier(rt, guest, sender, queue, item);
         queue = queue.saturating_add(1);
     }
 }
@@ -89,8 +84,7 @@ fn flush_each<R: Abort>(rt: &R, senders: &mut [Sender]) {
 fn stop_each<R: Abort + Wait>(rt: &R, guest: &mut Guest<'_>, senders: &mut [Sender]) {
     let mut queue = 0u32;
     for sender in senders.iter_mut() {
-        let answer = sender.request_stop(u32::MAX);
-        guest.wake(rt, queue, answer);
+        guest.stop(rt, queue, sender);
         queue = queue.saturating_add(1);
     }
 }

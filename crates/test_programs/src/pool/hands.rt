@@ -97,13 +97,6 @@ fn serve_in_threads<R: Abort + Threads + Wait + Sync>(
     for_each_mut(rt, guests, THREADS as usize, &serve);
 }
 
-/// Announces each queue.
-fn announce_all<R: Abort + Wait>(rt: &R, guest: &mut Guest<'_>) {
-    for queue in 0..QUEUES {
-        assert!(rt; guest.announce(rt, queue));
-    }
-}
-
 /// Threads serve the queues that the board has the senders of.
 fn serve_board<R: Abort + Threads + Wait + Sync>(
     rt: &R,
@@ -116,7 +109,7 @@ fn serve_board<R: Abort + Threads + Wait + Sync>(
 {
     let mut guests = take_guests(rt, alloc, pool, &mut callers, THREADS);
     if let Some(guest) = guests.first_mut() {
-        announce_all(rt, guest.get_mut());
+        guest.get_mut().announce_all(rt, QUEUES);
     }
     serve_in_threads(rt, guests.as_mut_slice(), board);
 }

@@ -124,9 +124,7 @@ fn run_all<R: Abort + Threads + Wait + Sync, K: Station + Drop + Send, G: Gate +
 ) {
     let (pool, announcer, mut callers) = new_pool_for(rt, alloc, queues, count);
     let mut guest = GuestOf::new(&pool, announcer);
-    for queue in 0..count {
-        assert!(rt; guest.announce(rt, queue));
-    }
+    guest.announce_all(rt, count);
     pool.run(rt, callers.as_mut_slice(), gate)
         .expect(rt, "memory");
 }
@@ -175,13 +173,6 @@ fn run_late<R: Abort + Threads + Wait + Sync>(
     });
 }
 
-/// Announces queues 0 and 1.
-fn announce_both<R: Abort + Wait>(rt: &R, guest: &mut Guest<'_>) {
-    for queue in 0..2u32 {
-        assert!(rt; guest.announce(rt, queue));
-    }
-}
-
 /// Two runs at once: the worker of the second executes queue 1 while that of the first waits before the item of queue 0, and
 /// both end.
 #[test]
@@ -190,7 +181,7 @@ fn pool_late_run_overlaps(rt: HostRuntime) {
     let (pool, announcer, mut callers) = new_pool_for(&rt, rt.alloc(), queues, 2);
     let late = take_last(&rt, &pool, &mut callers);
     let first = take_last(&rt, &pool, &mut callers);
-    announce_both(&rt, &mut Guest::new(&pool, announcer));
+    Guest::new(&pool, announcer).announce_all(&rt, 2);
     let gate = Waiting::new();
     run_late(
         &rt,

@@ -90,9 +90,7 @@ fn run_restless<R: Abort + Threads + Wait + Sync>(
     mut guest: Guest<'_>,
     sender: &mut Sender,
 ) {
-    for queue in 0..2u32 {
-        assert!(rt; guest.announce(rt, queue));
-    }
+    guest.announce_all(rt, 2);
     let doorway = Doorway::new();
     run_beside(
         rt,
@@ -151,9 +149,7 @@ fn announce_on<R: Abort + Wait>(rt: &R, guest: &mut Guest<'_>, second: &Second) 
 
 /// One worker runs the pool, of which both queues are announced, while another thread takes each place that gets free.
 fn run_crowded<R: Abort + Threads + Wait + Sync>(rt: &R, worker: Guest<'_>, mut guest: Guest<'_>) {
-    for queue in 0..2u32 {
-        assert!(rt; guest.announce(rt, queue));
-    }
+    guest.announce_all(rt, 2);
     let second = Second {
         ended: AtomicU64::new(0),
     };

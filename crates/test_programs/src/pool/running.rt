@@ -20,9 +20,7 @@ fn run_past<R: Abort + Threads + Wait + Sync, G: Gate + Sync>(
     queues: u32,
     gate: &G,
 ) {
-    for queue in 0..queues {
-        assert!(rt; guest.announce(rt, queue));
-    }
+    guest.announce_all(rt, queues);
     guest.run(rt, gate);
 }
 
@@ -91,8 +89,7 @@ fn after_stop<R: Abort>(
 /// An item is served by the run, and then the stop item is queued.
 fn serve_and_stop<R: Abort + Wait>(rt: &R, guest: &mut Guest<'_>, sender: &mut Sender) {
     serve_again(rt, guest, sender, 0);
-    let answer = sender.request_stop(u32::MAX);
-    guest.wake(rt, 0, answer);
+    guest.stop(rt, 0, sender);
 }
 
 /// The worker runs its pool meanwhile.

@@ -41,19 +41,30 @@ pub(crate) fn is_flushed<R: Abort>(rt: &R, sender: &mut Sender) -> bool {
     false
 }
 
-/// Queues an item and a barrier, and announces the queue where that wakes it. Both are served.
+/// Queues an item and a barrier behind it, and announces the queue where that wakes it.
+pub(crate) fn queue_with_barrier<R: Abort + Wait>(
+    rt: &R,
+    guest: &mut Guest<'_>,
+    sender: &mut Sender,
+    queue: u32,
+    item: u32,
+) {
+    assert!(rt; item < sender.layout().items);
+    let answer = sender.queue(rt, item);
+    guest.wake(rt, queue, answer);
+    assert!(rt; 0 < sender.layout().barriers);
+    let answer = sender.flush_begin(0, u32::MAX);
+    guest.wake(rt, queue, answer);
+}
+
+/// Queues the first item and a barrier, which are both served.
 pub(crate) fn serve_again<R: Abort + Wait>(
     rt: &R,
     guest: &mut Guest<'_>,
     sender: &mut Sender,
     queue: u32,
 ) {
-    assert!(rt; 0 < sender.layout().items);
-    let answer = sender.queue(rt, 0);
-    guest.wake(rt, queue, answer);
-    assert!(rt; 0 < sender.layout().barriers);
-    let answer = sender.flush_begin(0, u32::MAX);
-    guest.wake(rt, queue, answer);
+    queue_with_barrier(rt, guest, sender, queue, 0);
     assert!(rt; is_flushed(rt, sender));
 }
 
@@ -68,10 +79,8 @@ fn queue_rounds<R: Abort + Wait>(
         serve_again(rt, guest, one, 0);
         serve_again(rt, guest, two, 1);
     }
-    let answer = one.request_stop(u32::MAX);
-    guest.wake(rt, 0, answer);
-    let answer = two.request_stop(u32::MAX);
-    guest.wake(rt, 1, answer);
+    guest.stop(rt, 0, one);
+    guest.stop(rt, 1, two);
 }
 
 /// One worker runs the pool meanwhile.

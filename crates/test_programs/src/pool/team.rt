@@ -258,6 +258,13 @@ impl<'a, K: Station + Drop> GuestOf<'a, K> {
         self.pool.announce(rt, &mut self.caller, queue).is_ok()
     }
 
+    /// Announces so many queues, from the first on.
+    pub(crate) fn announce_all<R: Abort + Wait>(&mut self, rt: &R, queues: u32) {
+        for queue in 0..queues {
+            assert!(rt; self.announce(rt, queue));
+        }
+    }
+
     /// Announces a queue, picks one, works at it to its end and puts it back.
     pub(crate) fn serve<R: Abort + Wait, G: Gate>(&mut self, rt: &R, queue: u32, gate: &G) {
         assert!(rt; self.announce(rt, queue));
@@ -270,6 +277,12 @@ impl<'a, K: Station + Drop> GuestOf<'a, K> {
     pub(crate) fn wake<R: Abort + Wait>(&mut self, rt: &R, queue: u32, answer: Answer) {
         let woken = self.pool.wake(rt, &mut self.caller, queue, answer);
         assert!(rt; woken.is_ok());
+    }
+
+    /// Queues the stop item of a queue, by this sender of it.
+    pub(crate) fn stop<R: Abort + Wait>(&mut self, rt: &R, queue: u32, sender: &mut Sender) {
+        let answer = sender.request_stop(u32::MAX);
+        self.wake(rt, queue, answer);
     }
 }
 
