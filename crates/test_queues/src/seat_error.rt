@@ -14,10 +14,7 @@ const WORDS: &[(SeatError, &str)] = &[
     (SeatError::Draining, "the queue drains"),
     (SeatError::NotDraining, "the queue does not drain"),
     (SeatError::Open, "the queue is open"),
-    (
-        SeatError::SomeWait,
-        "a number that was taken has not begun",
-    ),
+    (SeatError::SomeWait, "a number that was taken has not begun"),
     (SeatError::NoneWaits, "all that was taken has begun"),
     (SeatError::Running, "a number runs"),
     (SeatError::NoneRuns, "no number runs"),

@@ -23,6 +23,9 @@ const THREADS: u32 = 3;
 /// So many items each thread queues on each queue.
 const OWN: u32 = 8;
 
+/// So many items a queue has, which are those of all threads.
+const ITEMS: u32 = 24;
+
 const RUNS: u32 = 10;
 
 /// Empty queues, and their senders: those of a queue stand beside each other, one for each thread.
@@ -32,7 +35,7 @@ struct Queues {
 }
 
 fn new_queues<R: Abort>(rt: &R, alloc: Global) -> Queues {
-    let layout = Layout::new(24, 1, 4).expect(rt, "a layout");
+    let layout = Layout::new(ITEMS, 1, 4).expect(rt, "a layout");
     let (mut all, mut senders) = (Vec::new(alloc), Vec::new(alloc));
     for _ in 0..QUEUES {
         let (served, own) = new_queue(rt, alloc, layout, Logging::new());
@@ -151,7 +154,7 @@ fn check_orders<R: Abort>(rt: &R, pool: Pool<Logging>) {
     let finished = pool.finish(0).expect(rt, "all finished");
     expect_same(rt, finished.len(), QUEUES as usize);
     for (work, _) in finished.as_slice() {
-        expect_same(rt, work.order.len(), 24);
+        expect_same(rt, work.order.as_slice().len(), ITEMS as usize);
         for thread in 0..THREADS {
             assert!(rt; ran_in_order(work.order.as_slice(), thread));
         }
