@@ -24,7 +24,7 @@ use Rattle.wq_calls.proofs.Fresh.{fresh_unclosed}
 pub rested_lengths : (m : Machine) → IsSound m → m.cursor ≡ None
     → length (accepted m.history) ≡ length (begun m.history) + length m.batch + length (listed m.history)
 rested_lengths m o still =
-    let a = o.chains in let done : m.walked ≡ [] = a.rested still in
+    let a = o.chains in let done : m.walked ≡ [] = a.none_walked still in
     let none : a.remaining ≡ [] = chain_zero (number_count m.layout) m.words a.remaining
     (subst (λ (c : Option ℕ). IsChain (number_count m.layout) m.words (word_at c) a.remaining) still a.walk_chain) in
     let mid : reverse_aux a.remaining m.walked ≡ [] = λ i. reverse_aux (none i) (done i) in

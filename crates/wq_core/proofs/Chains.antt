@@ -52,7 +52,7 @@ module _ (n : ℕ) (ws : List ℕ) where
         list_chain = chain_set n ws i v _ lst (λ j lt in'. spared j lt (omega (arith, count j, in'))) a.list_chain;
         walk_chain = chain_set n ws i v _ a.remaining (λ j lt in'. spared j lt (omega (arith, count j, in'))) a.walk_chain;
         order = a.order;
-        rested = a.rested;
+        none_walked = a.none_walked;
       }
 
   pub chained_push : (cursor : Option ℕ) (walked batch acc beg lst : List ℕ) (k : ℕ) → k < n → get_or ws (link_place k) 0 ≡ head_word (head_of_list lst)
@@ -64,21 +64,21 @@ module _ (n : ℕ) (ws : List ℕ) where
     order =
         ap (λ l. l ++ k ∷ []) a.order ∙ append_assoc (beg ++ (batch ++ reverse_aux a.remaining walked)) (reverse lst) (k ∷ [])
         ∙ ap (λ l. (beg ++ (batch ++ reverse_aux a.remaining walked)) ++ l) (sym (reverse_onto lst k []));
-    rested = a.rested;
+    none_walked = a.none_walked;
   }
 
   pub chained_take : (walked batch acc beg lst : List ℕ) (w : ℕ) → w ≡ head_word (head_of_list lst)
       → AreChained n ws None walked batch acc beg lst → AreChained n ws (number_at w) [] batch acc beg []
   chained_take walked batch acc beg lst w is a =
       let none : a.remaining ≡ [] = chain_zero n ws a.remaining a.walk_chain in
-      let done : walked ≡ [] = a.rested refl in
+      let done : walked ≡ [] = a.none_walked refl in
       let order' = rw (none, done) at a.order in
       record {
         remaining = lst;
         list_chain = refl;
         walk_chain = rw (word_at-number_at w, is) a.list_chain;
         order = order' ∙ simp (append-nil, append_assoc);
-        rested = λ _. refl;
+        none_walked = λ _. refl;
       }
 
   pub chained_begin : (walked rest acc beg lst : List ℕ) (k : ℕ)
@@ -94,7 +94,7 @@ module _ (n : ℕ) (ws : List ℕ) where
           list_chain = a.list_chain;
           walk_chain = a.walk_chain;
           order = o ∙ simp append_assoc;
-          rested = a.rested;
+          none_walked = a.none_walked;
         },
         rw o (slice_get_last beg k ((rest ++ reverse_aux a.remaining walked) ++ reverse lst)),
         more,
@@ -122,7 +122,7 @@ module _ (n : ℕ) (ws : List ℕ) where
             list_chain = a.list_chain;
             walk_chain = rw (word_at-number_at (get_or ws (link_place j) 0)) (rw i≡j at c.2);
             order = rw i≡j at o;
-            rested = λ e. absurd (number_at-some (get_or ws (link_place j) 0) more e);
+            none_walked = λ e. absurd (number_at-some (get_or ws (link_place j) 0) more e);
           }
 
   pub chained_walk_end : (j : ℕ) (walked batch acc beg lst : List ℕ) → get_or ws (link_place j) 0 ≡ 0
@@ -141,7 +141,7 @@ module _ (n : ℕ) (ws : List ℕ) where
             list_chain = a.list_chain;
             walk_chain = refl;
             order = rw (none, i≡j) at o ∙ simp append-nil;
-            rested = λ _. refl;
+            none_walked = λ _. refl;
           }
 
   pub chained_chain : (batch acc beg : List ℕ) (k : ℕ)
@@ -153,5 +153,5 @@ module _ (n : ℕ) (ws : List ℕ) where
         list_chain = refl;
         walk_chain = refl;
         order = ap (λ l. l ++ k ∷ []) (rw none at a.order) ∙ simp (append-nil, append_assoc);
-        rested = a.rested;
+        none_walked = a.none_walked;
       }

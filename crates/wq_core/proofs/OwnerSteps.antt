@@ -36,7 +36,7 @@ module _ (m : Machine) (o : IsSound m) where
       let b = by_keepers m o in
       let n : ℕ = number_count m.layout in
       let a = rw still at o.chains in
-      let walked : m.walked ≡ [] = a.rested refl in
+      let walked : m.walked ≡ [] = a.none_walked refl in
       let first : ℕ = head_word (head_of_list (listed m.history)) in
       let c = rw (← cursor_swapped m o unclosed) at (chained_take n m.words m.walked m.batch _ _ (listed m.history) first refl a) in
       from_keepers (after_swap m word e) (record {
@@ -172,7 +172,7 @@ module _ (m : Machine) (o : IsSound m) where
       let number : k < n = omega (arith, item) in
       let home = home_from_clear m o k number clear in
       let a = rw still at o.chains in
-      let walked : m.walked ≡ [] = a.rested refl in
+      let walked : m.walked ≡ [] = a.none_walked refl in
       let none : listed m.history ≡ [] = listed-shut m.layout m.history o.legal is in
       let c = chained_chain n m.words m.batch _ _ k (rw (walked, none) at a) in
       from_keepers (happened (record (with_item m k 1) { batch = m.batch ++ k ∷ [] }) (Chain k)) (record {
@@ -201,7 +201,7 @@ module _ (m : Machine) (o : IsSound m) where
   all_ended : m.cursor ≡ None → m.batch ≡ [] → ¬ IsRunning m.history → listed m.history ≡ [] → length (ended m.history) ≡ length (accepted m.history)
   all_ended still empty idle none =
       let a = rw (still, empty, none) at o.chains in
-      let walked : m.walked ≡ [] = a.rested refl in
+      let walked : m.walked ≡ [] = a.none_walked refl in
       let remains : a.remaining ≡ [] = chain_zero (number_count m.layout) m.words a.remaining a.walk_chain in
       let order : accepted m.history ≡ begun m.history = rw (walked, remains) at a.order ∙ simp append-nil in
       let ends = prefix_length (ended m.history) (begun m.history) (in_order m.layout m.history o.legal).ended_first in

@@ -74,7 +74,7 @@ sound_opening layout = record {
   rests = λ on. refl;
   items_are = λ k lt. all_alike (word_count (number_count layout)) _ 0;
   done_is = all_alike (word_count (number_count layout)) _ 0;
-  chains = record { remaining = []; list_chain = refl; walk_chain = refl; order = refl; rested = λ _. refl };
+  chains = record { remaining = []; list_chain = refl; walk_chain = refl; order = refl; none_walked = λ _. refl };
   linked = λ s k is. absurd (cc (is, ap (λ (p : Private). p.linked) (all_alike layout.senders s nothing_seen)));
   seen = λ s why is. none_seen [] why (rw (all_alike layout.senders s nothing_seen) at is);
 }

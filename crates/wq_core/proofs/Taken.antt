@@ -19,7 +19,7 @@ use Rattle.wq_core.proofs.Heads.{head_open, head_marked, open_from_link, link_se
 pub batch_is : (m : Machine) → IsSound m → m.cursor ≡ None → m.batch ≡ drop (length (begun m.history)) (take (taken m.history) (accepted m.history))
 batch_is m o still =
     let a = o.chains in
-    let done : m.walked ≡ [] = a.rested still in
+    let done : m.walked ≡ [] = a.none_walked still in
     let none : a.remaining ≡ [] = chain_zero (number_count m.layout) m.words a.remaining (rw still at a.walk_chain) in
     let order : accepted m.history ≡ (begun m.history ++ m.batch) ++ reverse (listed m.history) = rw (none, done) at a.order ∙ simp append-nil in
     let counts : length (begun m.history ++ m.batch) ≡ taken m.history =

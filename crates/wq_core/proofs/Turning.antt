@@ -35,7 +35,7 @@ chained_turn n ws cursor walked batch acc beg lst k v some once a =
       list_chain = chain_set n ws (link_place k) v _ lst (away lst (omega (arith, count, some, once))) a.list_chain;
       walk_chain = chain_set n ws (link_place k) v _ a.remaining (away a.remaining (omega (arith, count, some, once))) a.walk_chain;
       order = a.order;
-      rested = a.rested;
+      none_walked = a.none_walked;
     }
 
 -- and no sender keeps it

@@ -44,7 +44,7 @@ pub record AreChained (n : ℕ) (words : List ℕ) (cursor : Option ℕ) (walked
   pub list_chain : IsChain n words (head_word (head_of_list listed)) listed
   pub walk_chain : IsChain n words (word_at cursor) remaining
   pub order : accepted ≡ begun ++ (batch ++ reverse_aux remaining walked) ++ reverse listed
-  pub rested : cursor ≡ None → walked ≡ []
+  pub none_walked : cursor ≡ None → walked ≡ []
 
 pub record IsSound (m : Machine) : Type 0 where
   pub has_words : length m.words ≡ word_count (number_count m.layout)

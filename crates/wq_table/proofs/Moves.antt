@@ -216,7 +216,7 @@ module _ {V : Type 0} where
               (taken_times m.walked ks)
               b (b + 1) (accepted m.history) brs homes was k
               (away_gone m.history (Begin k) k Home (taken_times m.walked (k ∷ ks)) (taken_times m.walked ks) (gives_begin k) (λ x. x)
-              (omega (arith, batch_once m sound k ks first, ap (times k) (sound.chains.rested still)))
+              (omega (arith, batch_once m sound k ks first, ap (times k) (sound.chains.none_walked still)))
               (λ j other. omega (arith, times-cons j k ks, ap {B = ℕ} (λ (q : Bool). cond q 1 0) (ne_eqb k j (λ same. other (sym same))))))
               (came m.history (Begin k) k Home (gives_begin k))
               (λ place j late stands away.
