@@ -16,7 +16,7 @@ use Rattle.std.proofs.lemmas.Bool.{false_from_ne_true}
 use Rattle.wq_words.proofs.Closed.{closed_from_IsClosed}
 use Rattle.wq_calls.specs.Answers.{IsFinal}
 use Rattle.wq_calls.proofs.OwnerTells.{stands_legal, owner_batch}
-use Rattle.wq_calls.proofs.Taken.{rested_lengths}
+use Rattle.wq_calls.proofs.Taken.{walked_lengths}
 use Rattle.wq_words.proofs.Running.{runs_told, idle_told}
 
 -- nothing is accepted, begins or ends by the event
@@ -109,7 +109,7 @@ pub stands_lengths : (p : Part) (ks : List ℕ) → Stands p → p.stage ≡ Own
     → length (accepted p.seen) ≡ length (begun p.seen) + length ks + length (listed p.seen)
 stands_lengths p ks stands is =
     let m = stands.machine in let keeps : HasStage m p.seat (Owns None [] ks) = subst (HasStage m p.seat) is stands.fits.keeps in
-    let same = ap (λ (x : List ℕ). length x) keeps.3 in let sum = rested_lengths m stands.sound keeps.1 in
+    let same = ap (λ (x : List ℕ). length x) keeps.3 in let sum = walked_lengths m stands.sound keeps.1 in
     let whole : length (accepted m.history) ≡ length (begun m.history) + length ks + length (listed m.history) = omega arith in
     subst (λ (h : List Event). length (accepted h) ≡ length (begun h) + length ks + length (listed h)) (sym stands.seen_is) whole
 

@@ -21,9 +21,9 @@ use Rattle.wq_calls.proofs.Owned.{begun_on}
 use Rattle.wq_calls.proofs.Fresh.{fresh_unclosed}
 
 -- what is accepted has begun, is in the batch, or is on the list
-pub rested_lengths : (m : Machine) → IsSound m → m.cursor ≡ None
+pub walked_lengths : (m : Machine) → IsSound m → m.cursor ≡ None
     → length (accepted m.history) ≡ length (begun m.history) + length m.batch + length (listed m.history)
-rested_lengths m o still =
+walked_lengths m o still =
     let a = o.chains in let done : m.walked ≡ [] = a.none_walked still in
     let none : a.remaining ≡ [] = chain_zero (number_count m.layout) m.words a.remaining
     (subst (λ (c : Option ℕ). IsChain (number_count m.layout) m.words (word_at c) a.remaining) still a.walk_chain) in

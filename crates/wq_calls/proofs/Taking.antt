@@ -10,7 +10,7 @@ use Rattle.wq_calls.proofs.Growing.{grows_on}
 use Rattle.wq_calls.proofs.Tells.{Tells, TellsSo, tells_then, seen_after}
 use Rattle.wq_calls.proofs.OwnerTells.{stands_batch, stands_legal, pair_owner, Swaps, after_swaps}
 use Rattle.wq_calls.proofs.Waiting.{stands_walking}
-use Rattle.wq_calls.proofs.Taken.{rested_lengths, CutsAll}
+use Rattle.wq_calls.proofs.Taken.{walked_lengths, CutsAll}
 
 -- a step and what was seen after it
 pub followed : (xs : List Event) (n : ℕ) (p q r : Part) → TellsSo xs n p q → OnlySees q r → Stands r → TellsSo xs n p r
@@ -28,7 +28,7 @@ module _ (word : ℕ) (p q r : Part) (ks js : List ℕ) (count : ℕ) (mine : p.
       → length (accepted m.history) ≡ length (begun m.history) + length ks + length (listed m.history)
   lengths m sound keeps =
       let kept : HasStage m p.seat (Owns None [] ks) = subst (HasStage m p.seat) stage keeps in let same = ap (λ (x : List ℕ). length x) kept.3 in
-      omega (arith, rested_lengths m sound kept.1)
+      omega (arith, walked_lengths m sound kept.1)
 
   none_after : q.seat ≡ p.seat → own owner_seat follows.grows.new ≡ []
   none_after seat = subst (λ (c : ℕ). own c follows.grows.new ≡ []) (seat ∙ mine) follows.grows.mine

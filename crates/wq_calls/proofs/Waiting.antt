@@ -63,8 +63,8 @@ stands_walking p k walked batch stands is =
     )
 
 -- the owner that has walked all
-pub stands_rested : (p : Part) (batch : List ℕ) → Stands p → p.stage ≡ Owns None [] batch → length batch ≤ number_count p.layout
-stands_rested p batch stands is =
+pub stands_walked : (p : Part) (batch : List ℕ) → Stands p → p.stage ≡ Owns None [] batch → length batch ≤ number_count p.layout
+stands_walked p batch stands is =
     let m = stands.machine in let o = stands.sound in let keeps : HasStage m p.seat (Owns None [] batch) = subst (HasStage m p.seat) is stands.fits.keeps in
     let layout : number_count p.layout ≡ number_count m.layout = ap number_count stands.fits.layout_is in
     omega (arith, layout, waits_few m o, ap (λ (x : List ℕ). length x) keeps.3)

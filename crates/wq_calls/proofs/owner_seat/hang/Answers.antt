@@ -1,6 +1,6 @@
 use Rattle.std.proofs.Common.{refl, inr, arith}
 use Rattle.wq_table.proofs.Learns.{learns_none, learns_step}
-use Rattle.wq_calls.proofs.Waiting.{stands_rested}
+use Rattle.wq_calls.proofs.Waiting.{stands_walked}
 use Rattle.wq_calls.proofs.OwnerTells.{makes_stands}
 use Rattle.wq_calls.proofs.Hanging.{hang_none, hang_alone, hang_number, hang_next, hang_turns, hang_count, hang_stage, hang_tells, hangs}
 use Rattle.wq_calls.proofs.Taking.{follows_on, follows_none, number_small}
@@ -46,7 +46,7 @@ overflow_add-result g c = let p = c.args.chair.now.first.part in let both = c.re
     omega (
       arith,
       hang_count c.args.row c.args.more p c.requires.stands both c.if-row-eq0.false c.if-more-eq0.false,
-      stands_rested p _ c.requires.stands both.stage_is,
+      stands_walked p _ c.requires.stands both.stage_is,
       number_small p.layout,
     )
 
