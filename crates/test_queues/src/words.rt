@@ -5,8 +5,8 @@ use wq_words::Event::{
     Back, Begin, Busy, Chain, ChainBusy, Close, Drain, End, Hold, Push, Rest, Resume, Take,
 };
 use wq_words::{
-    BUSY, Event, Head, HistoryError, HistoryFault, Layout, LayoutError, MOST_ITEMS, Why,
-    check_history,
+    BUSY, Event, Head, HistoryError, HistoryFault, Layout, LayoutError, MOST_BARRIERS, MOST_ITEMS,
+    MOST_SENDERS, Why, check_history,
 };
 
 #[test]
@@ -29,7 +29,11 @@ fn layouts(rt: HostRuntime) {
             ((items, barriers, senders), refused),
         );
     }
-    expect_same(&rt, MOST_ITEMS, 65_536);
+    expect_same(
+        &rt,
+        (MOST_ITEMS, MOST_BARRIERS, MOST_SENDERS),
+        (65_536, 16, 64),
+    );
 }
 
 /// Words, and the heads that they stand for, if any.

@@ -17,6 +17,4 @@ pub use history::{HistoryError, HistoryFault, check_history};
 pub use laws::{
     headline, one_keeper, one_runs, one_wakes, pending_and_closed, pending_list, values_are_legal,
 };
-pub use layout::{
-    Layout, LayoutError, MOST_BARRIERS, MOST_ITEMS, MOST_SENDERS, MOST_TEXT_ITEMS,
-};
+pub use layout::{Layout, LayoutError, MOST_BARRIERS, MOST_ITEMS, MOST_SENDERS, MOST_TEXT_ITEMS};
