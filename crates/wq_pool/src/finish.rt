@@ -123,9 +123,9 @@ impl<K: Station + Drop> PoolOf<K> {
 
     /// Closes every queue and executes what is left of each, up to so many numbers of each, and then takes all apart: the works and
     /// the books, by place. Each queue is tried once: one that is in a turn is out. The clauses speak of what was done to a queue
-    /// from some state of its worker on, which goes on from what was handed in: who calls has not seen what lies in the pool. Where
-    /// items bring values `begins` and the law `brought_goes_on` of `wq_value_pool` say that what was brought before the pool was
-    /// made begins what the book has.
+    /// from some state of its worker on, which goes on from what was handed in: whoever calls has not seen what lies in the pool.
+    /// Where items bring values `begins` and the law `brought_goes_on` of `wq_value_pool` say that what was brought before the pool
+    /// was made begins what the book has.
     ///
     /// # Errors
     /// `Memory` before any queue is touched; `Out` for the first queue that is not in its slot; `Unfinished` for the first queue
