@@ -28,7 +28,7 @@ pub use Rattle.wq_words.specs.declared.answer.Modified.{Modified}
 pub use Rattle.wq_words.specs.declared.event.Event.{Event}
 pub use Rattle.wq_words.specs.declared.event.Event.TheVariants.{Hold, Busy, Push, Back, Take, Close, Drain, Resume, Begin, End, Chain, ChainBusy, Rest}
 pub use Rattle.wq_words.specs.declared.layout.Layout.{Layout}
-pub use Rattle.wq_words.proofs.Appended.{count_by-append, accepted-append, begun-append, accepted-count, pushes-split, fresh-more, ended-append}
+pub use Rattle.wq_words.proofs.Appended.{count_by-append, accepted-append, begun-append, accepted-count, fresh-more, ended-append}
 pub use Rattle.wq_words.proofs.Legal.{legal_next, legal_front, legal_nil}
 pub use Rattle.wq_words.proofs.Prefixes.{nothing_more, left_nil, right_nil, prefix_self, prefix_on, prefix_length}
 pub use Rattle.wq_words.proofs.Seen.{own-append, own_rest, closed_count, own_one, own_same, begun_same}

@@ -7,10 +7,10 @@ pub use Rattle.std.proofs.lemmas.Bool.Decides.{nat_tests}
 pub use Rattle.std.proofs.lemmas.Iterator.{YieldsList-from_slice}
 pub use Rattle.std.proofs.lemmas.Iterator.Adapters.{option_map_id}
 pub use Rattle.std.proofs.lemmas.Iterator.Consumers.{nth_from_yields_List, YieldsList-from_filter_map}
-pub use Rattle.std.proofs.lemmas.List.{length-reverse, get_or-reverse, append-nil, take_more, take-take, take_all, length-take, length_push, take-append-le}
+pub use Rattle.std.proofs.lemmas.List.{length-reverse, append-nil, take_more, take-take, take_all, length-take, length_push, take-append-le}
 pub use Rattle.std.proofs.lemmas.List.{reverse-append, drop-append-le, drop_all, drop_at, take_at, get_or-set_other, get_or-set_same, get_or_default}
 pub use Rattle.std.proofs.lemmas.List.Elements.{filter_map-append, filter-append}
-pub use Rattle.std.proofs.lemmas.List.Sums.{sum_by-append, sum_by-cons, prefix_len-le-length, prefix_len_stops, sum_by_push, fold_push, suffix_len-le-length}
+pub use Rattle.std.proofs.lemmas.List.Sums.{sum_by-append, sum_by-cons, sum_by_push, fold_push, suffix_len-le-length}
 pub use Rattle.std.proofs.lemmas.List.Sums.{count_by_more_yes, sum_by-take-le}
 pub use Rattle.std.proofs.lemmas.Option.{slice_get_within, get_or_from_slice_get, slice_get-get_or, slice_get_past}
 pub use Rattle.std.specs.List.{after_last, before_last, prefix_len, AllByRecursion, filter_map, suffix_len}
