@@ -19,7 +19,7 @@ pub use Rattle.wq_words.proofs.Closed.{closed_from_IsClosed, closed_from_open, I
 pub use Rattle.wq_words.proofs.Closed.{closed_shuts, shut_from_IsShut, shut_from_open, IsShut_from_shut, open_from_shut, shut_quiet, shut_drain, shut_resume}
 pub use Rattle.wq_words.proofs.Drains.{has_drained, at_work_draining}
 pub use Rattle.wq_words.proofs.Common.{◌≡◌, ◌≢◌, ℕ, ◌+◌, ◌<◌, ◌==◌, Bool, true, false, cond, List, [], ◌∷◌, ◌++◌, length, get_or, set, Option, Some, None}
-pub use Rattle.wq_words.proofs.Common.{slice_get, refl, sym, ap, ◌∙◌, arith, append_assoc, reverse, ◌≤◌, inl, inr, if◌then◌else◌, nat_lt, zero, suc, take, ◌-◌}
+pub use Rattle.wq_words.proofs.Common.{slice_get, refl, sym, ap, ◌∙◌, arith, append_assoc, reverse, ◌≤◌, inl, inr, if◌then◌else◌, nat_lt, take, ◌-◌}
 pub use Rattle.wq_words.proofs.Common.{length-append, ◌↔◌, drop, count_by, append-nil, get_or-set_other, get_or-set_same, length_push}
 pub use Rattle.wq_words.proofs.Common.{length-reverse, take_at, drop_at, sum_by-append, sum_by-cons, fold_push, eqb-true, eq-eqb}
 pub use Rattle.wq_words.proofs.Common.{ne_eqb, head_word, busy_word, number_count, ended, ended_by, closed, is_close, is_drain, is_resume, IsClosed, shut}
