@@ -12,14 +12,13 @@ pub use Rattle.wq_words.specs.declared.event.Why.{Why}
 pub use Rattle.wq_words.specs.declared.layout.Layout.{Layout}
 pub use Rattle.wq_core.specs.declared.step.Private.{Private}
 pub use Rattle.wq_core.specs.declared.step.Step.{Step}
-pub use Rattle.wq_core.specs.declared.step.Step.TheVariants.{Look, Link, Check, Walk}
-pub use Rattle.wq_core.proofs.Common.{eq-eqb, ◌%◌, ◌^◌, length-set, replicate, ⊎_elim, cases_eq, length-replicate, listed, ◌≡◌, ◌≢◌, ℕ, ◌+◌, ◌<◌, ◌==◌, List, [], ◌∷◌}
+pub use Rattle.wq_core.proofs.Common.{eq-eqb, ◌%◌, ◌^◌, length-set, replicate, ⊎_elim, cases_eq, length-replicate, listed, ◌≡◌, ◌≢◌, ℕ, ◌+◌, ◌<◌, List, [], ◌∷◌}
 pub use Rattle.wq_core.proofs.Common.{◌++◌, length, get_or, set, Option, Some, None, refl, sym, ap, ◌∙◌, arith, reverse, ◌≤◌, inl, inr, take, ◌-◌}
 pub use Rattle.wq_core.proofs.Common.{length-append, ◌↔◌, get_or-set_other, get_or-set_same, busy_word, number_count, ended, IsShut, begun, accepted_by}
 pub use Rattle.wq_core.proofs.Common.{begun_by, Holds, IsRunning, running, IsLegal, Keeper, Home, Sender, Listed, Owner, keeper_after, keeper, taken_over}
 pub use Rattle.wq_core.proofs.Common.{slice_get-get_or, slice_get_last, growing, in_order, prefix_length, nothing_seen, HasSeenCause, after_swap, Machine}
 pub use Rattle.wq_core.proofs.Common.{head, item_word, done_word, private, happened, link, with_head, with_item, with_done, unlinked, opening, seen_word}
-pub use Rattle.wq_core.proofs.Common.{after_walk, after_begin, after_end, after, with_link, with_private, StandsIn, IsMade, IsChain, IsSound, link_place}
+pub use Rattle.wq_core.proofs.Common.{after, with_link, with_private, StandsIn, IsMade, IsChain, IsSound, link_place}
 pub use Rattle.wq_core.proofs.Common.{number_at, word_at, item_place, done_place, head_place, link_word, link_to, word_count, TakesPushes, idle_word}
 pub use Rattle.wq_machine.specs.Refusal.{IsRefused}
 pub use Rattle.wq_machine.specs.Schedule.{Leads, Leaves, StopsAt}
