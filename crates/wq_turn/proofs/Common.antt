@@ -8,7 +8,7 @@ pub use Rattle.wq_words.specs.declared.layout.Layout.{Layout}
 pub use Rattle.wq_words.specs.History.{accepted, begun, ended, IsClosed, IsShut, IsDraining, IsRunning, ended_by, accepted_by, taken, fresh, first, closed}
 pub use Rattle.wq_words.specs.History.{shut}
 pub use Rattle.wq_words.specs.Legal.{IsLegal, IsComplete}
-pub use Rattle.wq_words.proofs.Closed.{closed_shuts, shut_from_IsShut, shut_from_open, IsClosed_from_closed}
+pub use Rattle.wq_words.proofs.Closed.{closed_shuts, shut_from_open, IsClosed_from_closed}
 pub use Rattle.wq_words.proofs.Seen.{filter-filter}
 pub use Rattle.wq_live.specs.Batch.{batch, next_of}
 pub use Rattle.wq_live.specs.Rest.{MayNotRest}
