@@ -1,4 +1,4 @@
-//! A sender, which queues its items and wakes who executes them where an answer says so; and two that do so in two threads.
+//! A sender, which queues its items and wakes whoever executes them where an answer says so; and two that do so in two threads.
 ghost use Rattle.std.specs.Prelude.{◌≡◌, ◌*◌, ◌<◌, ◌≤◌, ◌++◌, []};
 ghost use Rattle.wq_live.specs.History.{accepted};
 ghost use Rattle.wq_live.specs.Seen.{own};

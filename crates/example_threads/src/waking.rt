@@ -1,4 +1,4 @@
-//! How a sender wakes who executes what it queued.
+//! How a sender wakes whoever executes what it queued.
 use crossbeam_utils::sync::{Parker, Unparker};
 use std::alloc::{AllocError, Global};
 use wq_live::Answer;
@@ -12,14 +12,14 @@ pub(crate) enum WakesOn {
     EmptyList,
 }
 
-/// Wakes who executes, where the answer of a queueing says so.
+/// Wakes whoever executes, where the answer of a queueing says so.
 #[derive(Drop)]
 pub(crate) struct Waker {
     pub(crate) unparker: Unparker,
     pub(crate) on: WakesOn,
 }
 
-/// A parker for who executes, and a waker that unparks it.
+/// A parker for whoever executes, and a waker that unparks it.
 pub(crate) fn parker_and_waker(alloc: Global, on: WakesOn) -> Result<(Parker, Waker), AllocError> {
     let parker = Parker::new(alloc)?;
     let unparker = parker.unparker().clone()?;
