@@ -57,7 +57,7 @@ pub written : (m : Machine) (turn : Turn) (n : Machine) → Passes m turn n → 
 written m turn n (inl made) = (line (made_text m.layout turn.1 (reply_to m turn.0 turn.1)), inl (made.0, made.1, refl))
 written m turn n (inr over) = (line (codes "not enabled"), inr (over.0, over.1, refl))
 
--- and turns of which something is written lead to where they lead
+-- where turns lead with what is written of them, they lead without it
 passes_given : (m : Machine) (turn : Turn) (n : Machine) (text : List ℕ) → Gives m turn n text → Passes m turn n
 passes_given m turn n text (inl made) = inl (made.0, made.1)
 passes_given m turn n text (inr over) = inr (over.0, over.1)
