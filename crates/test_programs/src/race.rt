@@ -79,7 +79,7 @@ fn queue_first<R: Abort + Wait>(rt: &R, sender: &mut Sender, parker: &Parker) {
     queue_item(rt, sender, 0, parker.unparker());
 }
 
-/// A queueing wakes who parks: a park after it returns at once.
+/// A queueing wakes whoever parks: a park after it returns at once.
 #[test]
 fn a_queueing_wakes(rt: HostRuntime) {
     let parker = Parker::new(rt.alloc()).expect(&rt, "memory");

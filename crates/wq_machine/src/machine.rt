@@ -40,7 +40,7 @@ pub struct Core {
     walked: Vec<u32>,
     batch: Vec<u32>,
     history: Vec<Event>,
-    // who holds each number, and which number runs: the history says it too, but only to who reads it through
+    // who holds each number, and which number runs: the history says it too, but only to whoever reads it through
     holders: Vec<Option<u32>>,
     running: Option<u32>,
 }

@@ -62,8 +62,8 @@ fn drained<R: Abort>(rt: &R, alloc: Global) -> (Served<Logging>, Sender) {
     )
 }
 
-/// A worker that drains is no pool's until a later drain has ended it. Its first push then says no wake, so who made the pool
-/// announces the queue once, and the pool executes what is queued from then on.
+/// A worker that drains is no pool's until a later drain has ended it. Its first push then says no wake, so whoever made the
+/// pool announces the queue once, and the pool executes what is queued from then on.
 #[test]
 fn drained_queue_is_served(rt: HostRuntime) {
     let (queue, mut sender) = drained(&rt, rt.alloc());

@@ -14,7 +14,7 @@ pub(super) struct Calls {
 }
 
 impl Calls {
-    /// Counts a call down, and fails where none are left: who passes over that finds the stream as it was.
+    /// Counts a call down, and fails where none are left: whoever passes over that finds the stream as it was.
     fn count(&mut self) -> Result<()> {
         if self.left == 0 {
             self.left = self.again;
