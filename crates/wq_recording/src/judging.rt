@@ -18,7 +18,7 @@ ghost use Rattle.wq_recording.specs.VerdictText.{verdict_of, SaysOf, Finds};
 
 use crate::error::CheckError;
 use crate::finding::Finding;
-use crate::lines::{MOST_BYTES, Part, next_line, part_of};
+use crate::lines::{MOST_LINE_BYTES, Part, next_line, part_of};
 use crate::recording::Recording;
 use crate::stop::Stop;
 use crate::verdict_text::found;
@@ -145,7 +145,7 @@ fn last<L: Recording>(
         → L.rules.IsLegal layout h × SaysOf L.rules (verdict_of layout h None) finding)) }
     ensures refused { IfErr result (λ error. IfTextRefused error (λ e. (e.line ≡ number) × (last_fault stage rest.now ≡ Some e.kind))) }
 {
-    if rest.len() > MOST_BYTES {
+    if rest.len() > MOST_LINE_BYTES {
         return Err(refused(number, Kind::Size));
     }
     if !rest.is_empty() {

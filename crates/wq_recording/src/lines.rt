@@ -9,7 +9,7 @@ use std::io;
 use std::io::{BufRead, ErrorKind};
 
 /// How many bytes a line may have before its LF.
-pub(crate) const MOST_BYTES: usize = 4_096;
+pub(crate) const MOST_LINE_BYTES: usize = 4_096;
 
 // How many of these bytes belong to a line with room for so many more: all through its LF.
 fn part_len(bytes: &[u8], room: usize) -> usize
@@ -61,11 +61,11 @@ fn append_part<B: BufRead>(reader: &mut B, line: &mut Vec<u8>) -> io::Result<boo
         Ok(bytes) => bytes,
         Err(error) => return unless_interrupted(error),
     };
-    let count = part_len(bytes, MOST_BYTES + 1 - line.len());
+    let count = part_len(bytes, MOST_LINE_BYTES + 1 - line.len());
     let part = &bytes[..count];
     line.extend_from_slice(part)?;
     let is_end = is_end(part);
-    let is_long = line.len() > MOST_BYTES;
+    let is_long = line.len() > MOST_LINE_BYTES;
     reader.consume(count);
     Ok(is_end | is_long)
 }

@@ -6,8 +6,8 @@ use Rattle.wq_recording.proofs.LastLine.{last_long, last_cut, ends_refused}
 use Rattle.wq_recording.proofs.Telling.{told_legal}
 use Rattle.wq_recording.proofs.judging.last.Goals as goal
 
-pub returns-then-rest-gt-MOST_BYTES-clause-refused : goal.returns-then-rest-gt-MOST_BYTES-clause-refused
-returns-then-rest-gt-MOST_BYTES-clause-refused g c = rw c.refused.ensures (refl, last_long c.args.stage c.args.rest.now (omega arith))
+pub returns-then-rest-gt-MOST_LINE_BYTES-clause-refused : goal.returns-then-rest-gt-MOST_LINE_BYTES-clause-refused
+returns-then-rest-gt-MOST_LINE_BYTES-clause-refused g c = rw c.refused.ensures (refl, last_long c.args.stage c.args.rest.now (omega arith))
 
 pub returns-then-not-is_empty-clause-refused : goal.returns-then-not-is_empty-clause-refused
 returns-then-not-is_empty-clause-refused g c =
