@@ -51,8 +51,9 @@ pub fn pending_and_closed()
 {}
 
 /// Of the pushes between two rests that follow one another at most one wakes the queue, and just one where the queue was
-/// first taken or drained after a push: who wakes the owner on `wakes` alone does so once a rest. A take or a drain sets a
-/// resting queue to work without a wake, and so a push after a drain wakes nobody before the next rest. It holds of each list of events, legal or not.
+/// first taken or drained after a push: whoever wakes the owner on `wakes` alone does so once a rest. A take or a drain sets a
+/// resting queue to work without a wake, and so a push after a drain wakes nobody before the next rest. It holds of each list of
+/// events, legal or not.
 pub fn one_wakes()
     ensures once_a_rest { (h : List Event) → WakesOnceARest h }
 {}
