@@ -374,7 +374,7 @@ impl<W: Work> Worker<W> {
         drained
     }
 
-    /// Executes until the stop item ran. It parks where nothing waits, so who queues something unparks it, where the answer says
+    /// Executes until the stop item ran. It parks where nothing waits, so whoever queues something unparks it, where the answer says
     /// `first`. It never rests, so it is not enough to unpark it on `wakes`. It goes on at once where an execution is owed. Some
     /// time passes after a take of fewer than `SHORT_TAKE` numbers, and before it parks, so that a busy queue is taken from seldom
     /// and pays for no wake-up.
