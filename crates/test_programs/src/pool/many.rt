@@ -20,6 +20,9 @@ const WORKERS: u32 = 4;
 /// So many threads queue, each with a sender of each queue.
 const THREADS: u32 = 3;
 
+/// So many senders a queue has: one for each thread, and the worker's.
+const SENDERS: u32 = 4;
+
 /// So many items each thread queues on each queue.
 const OWN: u32 = 8;
 
@@ -35,7 +38,7 @@ struct Queues {
 }
 
 fn new_queues<R: Abort>(rt: &R, alloc: Global) -> Queues {
-    let layout = Layout::new(ITEMS, 1, 4).expect(rt, "a layout");
+    let layout = Layout::new(ITEMS, 1, SENDERS).expect(rt, "a layout");
     let (mut all, mut senders) = (Vec::new(alloc), Vec::new(alloc));
     for _ in 0..QUEUES {
         let (served, own) = new_queue(rt, alloc, layout, Logging::new());
