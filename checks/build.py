@@ -4,9 +4,10 @@ where none is named.
 
 Each crate is proved by one `rattle build`. The library that it writes has what the crates above may cite and not how it was proved
 (--statements), so that these load little. A crate can start when those below it are built, and does so the sooner, the longer its chain
-of crates above it is. One at a time gets two jobs, or three where it stands on no other crate, as far as so many are left, and each
-other one a processor that is left. A further job loads anew all that the crate stands on, which for the program takes longer than
-its proof. A crate that was built from the same files, over the same libraries and by the same kit, is not proved again.
+of crates above it takes. The one that all wait for, whose chain is the longest of all that are left, gets two jobs, or three where it
+stands on no other crate, as far as so many are left, and each other one a processor that is left. A further job loads anew all that
+the crate stands on, which for the program takes longer than its proof. A crate that was built from the same files, over the same
+libraries and by the same kit, is not proved again.
 
 The libraries that the commands of `rt` build are others, and hold the proofs. These stand below them, in crates/CRATE/out/rlib/statements:
 no other folder may have files of a library, by `rt ci`. Where `rt` builds its own anew, this one goes, and is built again by the next run.
@@ -33,8 +34,16 @@ USUAL = "wqrun"
 PROCESSORS = len(os.sched_getaffinity(0))
 # room for one job of a check
 MEMORY_OF_A_JOB = 3 << 30
-# before a crate's own lines all that it stands on is loaded, which takes about as long as the proof of so many of them
-LINES_OF_LOADING = 250
+# How many seconds each crate takes with one job, on an idle machine. They order the crates and nothing else; no count of lines does
+# that as well, since what a crate loads and how much in it is generic weigh as much as its length.
+SECONDS = {
+    "trail": 6, "wq_words": 43, "wq_core": 26, "wq_command_line": 52, "wq_table": 74, "wq_check": 89, "wq_calls": 63, "wq_live": 55,
+    "wq_text": 138, "wq_ledger": 27, "wq_machine": 101, "wq_ready": 26, "wq_worker": 61, "wq_meaning": 38, "wq_plan": 17, "wq_turn": 32,
+    "wq_delay": 72, "wq_pool": 86, "wq_recording": 85, "wq_race": 87, "wq_subcommand": 26, "wq_script": 84, "wq_commands": 22,
+    "wq_pool_plan": 135, "wqrun": 63,
+}  # fmt: skip
+# those of a crate that is not named there
+USUAL_SECONDS = 60
 # how much less of a processor a crate of one job gets, where the one of more wants it too
 NICENESS = 5
 # the provers at work
@@ -65,12 +74,12 @@ def with_below(crates):
 
 
 def chains(crates):
-    """How long the longest chain of crates takes, from each crate upwards, in lines of code and of loading."""
-    lines = {}
+    """How many seconds the longest chain of crates takes, from each crate upwards."""
+    seconds = {}
     for crate in reversed(crates):
-        own = sum(it.read_text().count("\n") for it in (CRATES / crate / "src").rglob("*.rt"))
-        lines[crate] = LINES_OF_LOADING + own + max((lines[it] for it in lines if crate in OWN[it]), default=0)
-    return lines
+        above = max((seconds[it] for it in seconds if crate in OWN[it]), default=0)
+        seconds[crate] = SECONDS.get(crate, USUAL_SECONDS) + above
+    return seconds
 
 
 def program_of(crate):
@@ -167,7 +176,9 @@ class Build:
                     free = most - sum(at_work)
                     if free <= 0:
                         break
-                    jobs = 1 if program_of(crate) or max(at_work, default=1) > 1 else min(free, 2 if OWN[crate] else 3)
+                    is_waited_for = self.chain[crate] >= max(self.chain[it] for it in left)
+                    has_one = program_of(crate) or max(at_work, default=1) > 1 or not is_waited_for
+                    jobs = 1 if has_one else min(free, 2 if OWN[crate] else 3)
                     running[pool.submit(self.prove, crate, jobs, 0 if jobs > 1 else NICENESS)] = crate, jobs
                     left.remove(crate)
                 for it in wait(running, return_when=FIRST_COMPLETED).done:
