@@ -39,7 +39,7 @@ enum wq_fault {
     WQ_FAULT_CLOSED = 102, WQ_FAULT_DRAINING = 103, WQ_FAULT_NOT_DRAINING = 104,
     WQ_FAULT_NEVER_DRAINED = 105,                  /* no drain has begun */
     WQ_FAULT_OPEN = 106,                           /* the queue neither is closed nor drains; of a BACK_CLOSED, it is not closed */
-    WQ_FAULT_RUNS = 107, WQ_FAULT_NOTHING_RUNS = 108, /* another number runs, none does */
+    WQ_FAULT_RUNS = 107, WQ_FAULT_NOTHING_RUNS = 108, /* a number runs (of an END, another one), none does */
     WQ_FAULT_NOT_WAITING = 109, WQ_FAULT_NEXT = 110,  /* the number does not wait, another is the next to begin */
     WQ_FAULT_NOT_ENDED = 111                       /* something accepted has not ended */
 };
