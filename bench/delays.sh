@@ -8,7 +8,9 @@ trap 'rm -f "$wheel"' EXIT
 "${CC:-cc}" -std=c11 -O2 -o "$wheel" "$(dirname "${BASH_SOURCE[0]}")/wheel.c"
 for plan in "4096 100" "16 20000"; do
   for _ in 1 2 3; do
-    echo "table $plan: $("$program" delays $plan | tr '\n' ' ')"
-    echo "in C  $plan: $("$wheel" $plan | tr '\n' ' ')"
+    said=$("$program" delays $plan | tr '\n' ' ')
+    echo "table $plan: $said"
+    said=$("$wheel" $plan | tr '\n' ' ')
+    echo "in C  $plan: $said"
   done
 done

@@ -10,16 +10,20 @@ trap 'rm -f "$scheme" "$counts"' EXIT
 
 # The instructions of a command's whole run, in units of its million items.
 instructions() {
-  valgrind --tool=callgrind --callgrind-out-file=/dev/null "$@" 2> "$counts" > /dev/null
+  valgrind --tool=callgrind --callgrind-out-file=/dev/null "$@" 2> "$counts" > /dev/null || { cat "$counts" >&2; return 1; }
   awk '/Collected/ { printf "%.1f instructions an item\n", $NF / 1000000 }' "$counts"
 }
 
 grep -m1 'model name' /proc/cpuinfo | cut -d: -f2 | sed 's/^ //'
 for _ in 1 2 3 4 5; do
-  echo "queue: $("$program" 0 256 5000000)"
-  echo "in C:  $("$scheme" eager 0 256 5000000)"
+  said=$("$program" 0 256 5000000)
+  echo "queue: $said"
+  said=$("$scheme" eager 0 256 5000000)
+  echo "in C:  $said"
 done
 if command -v valgrind > /dev/null; then
-  echo "queue: $(instructions "$program" 0 256 1000000)"
-  echo "in C:  $(instructions "$scheme" eager 0 256 1000000)"
+  said=$(instructions "$program" 0 256 1000000)
+  echo "queue: $said"
+  said=$(instructions "$scheme" eager 0 256 1000000)
+  echo "in C:  $said"
 fi

@@ -4,9 +4,10 @@
 //
 // `seats` is wq.h; `mutex` a mutex, a ring and a PENDING byte an item; where it is compiled with -DGLIB=1, `async` a GAsyncQueue with
 // such bytes, and `pool` a GThreadPool with them and one exclusive thread. That thread executes, with 0 senders too, and the program's
-// own sleeps until it has executed a batch, which it counts as a take. After a short take the owner passes three quarters of a microsecond, as bench_queue does, and a sender of wq.h that lost
-// an exchange gives way by the same count of pauses: it is measured, since a pause takes 6 nanoseconds on some processors and 45 on
-// others, and all kinds pause alike.
+// own sleeps until it has executed a batch, which it counts as a take. Of a GAsyncQueue a take pops item by item, until there is none.
+// After a short take the owner passes three quarters of a microsecond, as bench_queue does, and a sender of wq.h that lost an exchange
+// gives way by the same count of pauses: it is measured, since a pause takes 6 nanoseconds on some processors and 45 on others, and all
+// kinds pause alike.
 #include <inttypes.h>
 #include <pthread.h>
 #include <sched.h>
@@ -132,13 +133,15 @@ static void stop_ring(void) {
 static GAsyncQueue *async;
 static _Atomic unsigned char *async_pending;
 static atomic_bool async_closed;
-static gpointer async_next;
+static gpointer *async_taken; // the batch, from async_next on
+static uint32_t async_next;
 
 static bool make_async(uint32_t senders, uint32_t items) {
     (void)senders;
     async = g_async_queue_new();
     async_pending = calloc(items, 1);
-    return async_pending != NULL;
+    async_taken = calloc(items, sizeof *async_taken);
+    return async_pending && async_taken;
 }
 
 static enum answer offer_async(uint32_t sender, uint32_t item) {
@@ -149,13 +152,17 @@ static enum answer offer_async(uint32_t sender, uint32_t item) {
     return QUEUED;
 }
 
+// All that stands there; a number is pending until it is executed, so the batch has room.
 static uint32_t take_async(void) {
-    async_next = g_async_queue_try_pop(async);
-    return async_next != NULL;
+    uint32_t count = 0;
+    gpointer item;
+    while ((item = g_async_queue_try_pop(async))) async_taken[count++] = item;
+    async_next = 0;
+    return count;
 }
 
 static void run_async(void) {
-    atomic_store(&async_pending[GPOINTER_TO_UINT(async_next) - 1], 0);
+    atomic_store(&async_pending[GPOINTER_TO_UINT(async_taken[async_next++]) - 1], 0);
     work++;
 }
 
