@@ -8,6 +8,10 @@ wqrun=${1:+$(realpath "$1")}
 cd "$(dirname "${BASH_SOURCE[0]}")/.."
 work=$(mktemp -d)
 trap 'rm -rf "$work"' EXIT
+if [[ $work = *[[:space:]]* ]]; then
+    echo "c: pkg-config takes a path apart at a space: name a folder without one by TMPDIR" >&2
+    exit 1
+fi
 export LD_LIBRARY_PATH=$work YEANGVOS_LIBRARY=$work/libyeangvos.so PYTHONPATH=include PYTHONDONTWRITEBYTECODE=1
 if ! command -v "${CC:-cc}" >/dev/null; then
     echo "c: no C compiler, so nothing was tested: name one by CC" >&2
@@ -155,7 +159,7 @@ fi
 for sanitizer in address,undefined thread; do
     if sanitizes "${CC:-cc}" $sanitizer; then
         for program in codes "threads 100" worker "worker_answers 100" pure "random $work/runs 1 20"; do
-            built "${program%% *}" -fsanitize=$sanitizer
+            built "${program%% *}" -fsanitize=$sanitizer -fno-sanitize-recover=all
             # shellcheck disable=SC2086 # the words of the program
             timeout 60 "${unmixed[@]}" "$work/"$program >"$work/said"
         done

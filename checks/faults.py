@@ -52,6 +52,8 @@ class Runner:
 
     def __init__(self, program, folder):
         self.program, self.folder, self.told = program, Path(folder), Path(folder) / "told"
+        if len(str(folder).split()) > 1:
+            sys.exit("faults: LD_PRELOAD takes a path apart at a space: name a folder without one by TMPDIR")
         shim, compiler = self.folder / "faults.so", os.environ.get("CC", "cc")
         if not shutil.which(compiler):
             sys.exit(f"faults: no C compiler {compiler}, so nothing was tried: name one by CC")

@@ -11,6 +11,10 @@ cd "$(dirname "${BASH_SOURCE[0]}")"
 report=$PWD/refused_memory.report
 folder=$(mktemp -d)
 trap 'rm -rf "$folder"' EXIT
+if [[ $folder = *[[:space:]]* ]]; then
+    echo "refused_memory: LD_PRELOAD takes a path apart at a space: name a folder without one by TMPDIR" >&2
+    exit 1
+fi
 "${CC:-cc}" -O2 -Wall -Wextra -shared -fPIC -o "$folder/faults.so" c/faults.c
 # each call of the program has its line in the report, and each line its call
 if ! diff <(cut -d: -f1 ../crates/test_memory/stdout | sort) <(cut -d' ' -f1 "$report" | sort); then
