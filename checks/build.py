@@ -93,10 +93,10 @@ def folder_of(crate):
 
 
 class Build:
-    """The crates to build, over one kit."""
+    """The crates to build, over one kit. What is given as held stays open in each prover, so that a lock lasts until the last one ends."""
 
-    def __init__(self, names, kit):
-        self.kit, self.crates = kit, with_below(names)
+    def __init__(self, names, kit, held=()):
+        self.kit, self.crates, self.held = kit, with_below(names), held
         self.chain = chains(self.crates)
         self.sums = {}
         for crate in self.crates:
@@ -152,7 +152,7 @@ class Build:
         said, began = "", time.monotonic()
         with tempfile.TemporaryDirectory(prefix="wqrun-build-") as folder:
             for words in self.commands(crate, jobs, folder):
-                pipes = {"stdout": subprocess.PIPE, "stderr": subprocess.STDOUT, "text": True, "errors": "replace"}
+                pipes = {"stdout": subprocess.PIPE, "stderr": subprocess.STDOUT, "text": True, "errors": "replace", "pass_fds": self.held}
                 with subprocess.Popen(["nice", "-n", str(niceness), *words], cwd=CRATES / crate, **pipes) as ran:
                     RUNNING.add(ran)
                     said += ran.communicate()[0]
@@ -225,8 +225,8 @@ def main():
     if rt is None:
         sys.exit('build.py: there is no rt on the PATH. It comes with Rattle\'s toolchain: README.md, "Run it"')
     signal.signal(signal.SIGTERM, stop)
-    _held = lone_run(with_below(names))
-    build = Build(names, Path(rt).resolve().parent.parent)
+    held = lone_run(with_below(names))
+    build = Build(names, Path(rt).resolve().parent.parent, held)
     with tempfile.NamedTemporaryFile("w", prefix="wqrun-build-", delete=False) as log:
         print(BEFORE.format(names=" and ".join(names), count=len(build.crates), jobs=jobs_at_once(), log=log.name), flush=True)
         if names == [USUAL]:
