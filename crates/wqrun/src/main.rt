@@ -28,7 +28,7 @@ fn fail<O: Write, E: Write>(failure: Failure, output: &mut O, faults: &mut E) ->
 
 // Runs the text of a reader as what it is.
 fn run_text<T: Threads + Wait + Sync, R: Read + Drop, O: Write, E: Write>(
-    threads: &T,
+    rt: &T,
     alloc: Global,
     task: Task,
     reader: R,
@@ -39,7 +39,7 @@ fn run_text<T: Threads + Wait + Sync, R: Read + Drop, O: Write, E: Write>(
         TaskKind::Script => script_main(alloc, reader, output, faults),
         TaskKind::Steps => steps_main(alloc, reader, output, faults),
         TaskKind::History => subcommand_main(&HistoryCommand, alloc, reader, output, faults),
-        TaskKind::Live => live_main(threads, alloc, reader, output, faults),
+        TaskKind::Live => live_main(rt, alloc, reader, output, faults),
         TaskKind::Check => match BufReader::new(alloc, reader) {
             Ok(reader) => check_main(alloc, reader, task.wants_drained, output, faults),
             Err(error) => fail(Failure::from(error), output, faults),
