@@ -192,8 +192,8 @@ static inline uint32_t wq_init(wq_seat *seat) {
 }
 
 /* Builds a queue of 1 to 65,536 items, 1 to 16 barriers and 1 to 64 senders. Its owner takes the seat. The queue rests: its first
- * queueing is answered WQ_WAKES, and a wq_rest before it WQ_NO. WQ_OK; WQ_IN_USE, the first of WQ_ITEMS, WQ_BARRIERS and WQ_SENDERS that
- * is out of its limits, or WQ_MEMORY. */
+ * queueing is answered WQ_WAKES, unless a take, a drain or a close comes before it, and a wq_rest before these WQ_NO. WQ_OK; WQ_IN_USE,
+ * the first of WQ_ITEMS, WQ_BARRIERS and WQ_SENDERS that is out of its limits, or WQ_MEMORY. */
 static inline uint32_t wq_build(wq_seat *owner, uint32_t items, uint32_t barriers, uint32_t senders) {
     WQ_CALL(owner, WQ_NO_NUMBER, wq_c_build(owner->room, items, barriers, senders));
 }
