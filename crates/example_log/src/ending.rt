@@ -21,9 +21,13 @@ use wq_values::ValueSender;
 /// A log that has come to its end: its text, its queue's book, and how many of its messages each client sent.
 #[derive(Drop)]
 pub struct Written {
+    /// All lines that were queued, one behind another, in the order in which they were accepted.
     pub text: Vec<u8>,
+    /// The book, with the whole history of the queue and the lines that came with it, which contracts alone see.
     pub book: ValueBook<Line>,
+    /// How many of the first client's messages, of those to both logs, were queued.
     pub of_first: usize,
+    /// How many of the second client's were.
     pub of_second: usize,
 }
 

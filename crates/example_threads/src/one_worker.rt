@@ -13,6 +13,7 @@ use wq_worker::{Book, Follow, Ledger, Work, Worker};
 /// A work that keeps the list of what it ran, which contracts alone see, and asks for nothing to follow.
 #[derive(Drop)]
 pub struct Runs {
+    /// The list of what it ran, which contracts alone see.
     pub ran: Trail,
 }
 

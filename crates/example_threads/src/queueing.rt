@@ -15,7 +15,9 @@ use wq_live::{Answer, Sender, queued_is_accepted};
 /// A sender, and the list of what it queued and was answered `Queued` for, which contracts alone see.
 #[derive(Drop)]
 pub struct Told {
+    /// The sender, with the history that it has seen, which contracts alone see.
     pub sender: Sender,
+    /// The list of what was accepted of it, which contracts alone see.
     pub queued: Trail,
 }
 

@@ -35,9 +35,13 @@ struct Three {
 /// The owner and the senders, which have met.
 #[derive(Drop)]
 pub struct Met {
+    /// The owner, with the whole history of the queue, which contracts alone see.
     pub owner: Owner,
+    /// The sender 0, and what it queued.
     pub first: Told,
+    /// The sender 1, and what it queued.
     pub second: Told,
+    /// The sender 2, and what it queued.
     pub third: Told,
 }
 

@@ -26,10 +26,15 @@ use wq_worker::{Book, Ledger, Totals, Unbalanced, Unbuilt, Worker, nothing_is_as
 /// The work and the book of a queue that was destroyed, its two senders, which have met the book, and the sums of all counts.
 #[derive(Drop)]
 pub struct Served {
+    /// The work, with the list of what it ran.
     pub work: Runs,
+    /// The book, with the whole history of the queue, which contracts alone see.
     pub book: Book,
+    /// The sender 0, and what it queued.
     pub first: Told,
+    /// The sender 1, and what it queued.
     pub second: Told,
+    /// The sums of the counts of the worker and of all senders.
     pub totals: Totals,
 }
 

@@ -17,8 +17,11 @@ use wq_values::ValueOwner;
 /// The owner, the sum of each item times the message that came with it, and the list of the messages, which contracts alone see.
 #[derive(Drop)]
 pub struct Ran {
+    /// The owner, with the history that it has seen, which contracts alone see.
     pub owner: ValueOwner<Message>,
+    /// The sum of each item times the message that came with it.
     pub sum: u64,
+    /// The list of the messages, which contracts alone see.
     pub ran: Trail,
 }
 

@@ -20,14 +20,18 @@ pub type Message = Box<u32>;
 /// A sender, and the list of the messages that it queued and was answered `Queued` for, which contracts alone see.
 #[derive(Drop)]
 pub struct Told {
+    /// The sender, with the history that it has seen, which contracts alone see.
     pub sender: ValueSender<Message>,
+    /// The list of the messages that it queued, which contracts alone see.
     pub queued: Trail,
 }
 
 /// A sender, and what its queueing of the stop item was answered.
 #[derive(Drop)]
 pub struct Stopped {
+    /// The sender, with the history that it has seen, which contracts alone see.
     pub sender: ValueSender<Message>,
+    /// What its queueing was answered.
     pub answer: Answer,
 }
 

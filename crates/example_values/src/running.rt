@@ -31,9 +31,13 @@ struct Senders {
 /// The owner and the senders, which have met.
 #[derive(Drop)]
 pub struct Met {
+    /// The owner, with the sum and the list of the messages that it ran.
     pub ran: Ran,
+    /// The sender 0, and the messages that it queued.
     pub first: Told,
+    /// The sender 1, and the messages that it queued.
     pub second: Told,
+    /// The sender 2, which queued the stop item.
     pub last: Stopped,
 }
 
