@@ -4,7 +4,7 @@ use std::rt::Runtime;
 use std::sync::Wait;
 use std::thread::Threads;
 
-/// Memory, a clock, threads, and that they may wait.
+/// What a program has, memory, threads, and that they may wait.
 pub trait Host: Runtime + Alloc<A = Global> + Threads + Wait + Sync {}
 
 impl<R: Runtime + Alloc<A = Global> + Threads + Wait + Sync> Host for R {}
