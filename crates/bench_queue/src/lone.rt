@@ -1,7 +1,7 @@
 //! One item at a time, queued to a worker that serves in another thread and has nothing else to do.
 use crate::host::Host;
 use crate::pace::Pace;
-use crate::posts::offer;
+use crate::posts::{offer, pause};
 use crate::refusal::Refusal;
 use crate::runs::{Runs, shown};
 use crate::serve::serve;
@@ -28,7 +28,7 @@ impl Ringer {
     /// Queues the item and waits until the worker has run so many in all. How long that took.
     fn ring<R: Host>(&mut self, rt: &R, runs: u64) -> Result<Duration, Refusal> {
         let start = Instant::now(rt)?;
-        if let Answer::Queued { first: true, .. } = offer(&mut self.sender, 0) {
+        if let Answer::Queued { first: true, .. } = offer(&mut self.sender, 0, pause) {
             self.unparker.unpark();
         }
         for _ in 0..u64::MAX {

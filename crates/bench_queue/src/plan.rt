@@ -9,7 +9,7 @@ use wq_words::{Layout, LayoutError};
 /// What the words ask for.
 #[derive(Clone, Copy)]
 pub enum Plan {
-    /// A small load that an owner executes, of which what is printed depends on no clock.
+    /// A small load of each kind, of which what is printed depends on no clock.
     Small,
     /// A load that an owner executes.
     Owner(Load),

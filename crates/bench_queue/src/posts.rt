@@ -50,8 +50,11 @@ pub fn pause(turn: u64) {
     }
 }
 
-/// Queues an item once it is no longer pending. What that was answered, Queued or Closed.
-pub fn offer(sender: &mut Sender, item: u32) -> Answer {
+/// Queues an item once it is no longer pending, and passes some time before each further try. What that was answered, Queued or
+/// Closed.
+pub fn offer<F: Fn(u64)>(sender: &mut Sender, item: u32, pause: F) -> Answer
+    requires { F.IsAlwaysCallable pause }
+{
     for turn in 0..u64::MAX {
         if item >= sender.layout().items {
             return Answer::Closed;
@@ -67,7 +70,7 @@ pub fn offer(sender: &mut Sender, item: u32) -> Answer {
 impl Post {
     /// Queues an item, and wakes the worker where that is asked. False where the queue is closed.
     fn offer(&mut self, item: u32) -> bool {
-        let answer = offer(&mut self.sender, item);
+        let answer = offer(&mut self.sender, item, pause);
         if let Answer::Queued { first, wakes } = answer {
             self.calls.firsts = self.calls.firsts.saturating_add(u64::from(first));
             self.calls.least = self.calls.least.saturating_add(1);

@@ -36,7 +36,7 @@ pub enum Refusal {
     /// A thread could not be made.
     #[error("no thread")]
     NoThread,
-    /// The system's clock gave no time, or nothing could be printed.
+    /// The system's clock gave no time, `/proc/self/statm` could not be read, or nothing could be printed.
     #[error("{0}")]
     System(#[from] io::Error),
 }

@@ -2,6 +2,7 @@
 ghost use Rattle.wq_ready.specs.Known.{IsCallerOf};
 
 use super::in_order::{InOrder, SLICE};
+use crate::posts::offer;
 use std::sync::Wait;
 use std::sync::atomic::{AtomicU64, Ordering};
 use std::thread::yield_now;
@@ -21,20 +22,6 @@ pub struct Feeder<'p> {
     rounds: u64,
     announced: u64,
     ghost calls: { IsCallerOf pool.now.ready caller },
-}
-
-/// Queues an item once it is no longer pending. What that was answered, Queued or Closed.
-fn queue_when_free(seat: &mut Sender, item: u32) -> Answer {
-    for _ in 0..u64::MAX {
-        if item >= seat.layout().items {
-            break;
-        }
-        match seat.queue_tries(item, 1000) {
-            Answer::Pending | Answer::Contended | Answer::Draining => yield_now(),
-            settled => return settled,
-        }
-    }
-    Answer::Closed
 }
 
 impl<'p> Feeder<'p> {
@@ -78,7 +65,7 @@ impl<'p> Feeder<'p> {
                 return;
             };
             let answer = match item {
-                Some(item) => queue_when_free(seat, item),
+                Some(item) => offer(seat, item, |_turn: u64| yield_now()),
                 None => seat.request_stop(u32::MAX),
             };
             self.wake(rt, queue, answer);
