@@ -1,5 +1,6 @@
 //! The example of a user's own logs.
-use example_log::{Line, Log, Message, Written, write};
+use crate::expect::expect_each_words;
+use example_log::{Line, Log, LogError, Message, Written, write};
 use std::alloc::Global;
 use std::process::Abort;
 use wq_words::Layout;
@@ -89,4 +90,15 @@ fn both_logs_have_all_lines(rt: HostRuntime) {
         assert!(rt; has_all(&access, Log::Access));
         assert!(rt; has_all(&errors, Log::Errors));
     }
+}
+
+const WORDS: &[(LogError, &str)] = &[
+    (LogError::Memory, "no memory"),
+    (LogError::Thread, "no thread"),
+    (LogError::Out { queue: 1 }, "the queue 1 is out"),
+];
+
+#[test]
+fn words_of_log_errors(rt: HostRuntime) {
+    expect_each_words(&rt, rt.alloc(), WORDS);
 }

@@ -1,5 +1,6 @@
 //! The example of a user's own pool.
-use example_pool::{Ended, run};
+use crate::expect::expect_each_words;
+use example_pool::{Ended, RunError, run};
 use wq_words::Layout;
 
 const RUNS: u32 = 20;
@@ -33,4 +34,14 @@ fn both_queues_run_all(rt: HostRuntime) {
         assert!(rt; ran_all(&one));
         assert!(rt; ran_all(&two));
     }
+}
+
+const WORDS: &[(RunError, &str)] = &[
+    (RunError::Memory, "no memory"),
+    (RunError::Out { queue: 1 }, "the queue 1 is out"),
+];
+
+#[test]
+fn words_of_run_errors(rt: HostRuntime) {
+    expect_each_words(&rt, rt.alloc(), WORDS);
 }

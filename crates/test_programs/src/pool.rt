@@ -14,3 +14,4 @@ mod stopped;
 mod team;
 mod turns;
 mod values;
+mod words;
