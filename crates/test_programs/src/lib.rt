@@ -6,6 +6,8 @@
 #[cfg(test)]
 mod expect;
 #[cfg(test)]
+mod looks;
+#[cfg(test)]
 mod mains;
 #[cfg(test)]
 mod own_log;

@@ -1,20 +1,18 @@
 //! That a race runs: what its threads do beside what the contracts say.
 ghost use Rattle.wq_race.specs.Team.{IsNewTeam};
 
-use crate::expect::expect_same;
+use crate::expect::{expect_each_words, expect_same};
+use crate::looks::{LOOKS, finds};
 use crossbeam_utils::sync::Parker;
 use std::alloc::Global;
 use std::process::Abort;
 use std::sync::Wait;
-use std::thread::{Scope, Threads, scope, scope_env, yield_now};
+use std::thread::{Scope, Threads, scope, scope_env};
 use std::time::{Duration, Instant};
 use wq_live::Sender;
 use wq_plan::Plan;
 use wq_pool_plan::{Raced, run_teams};
 use wq_race::{RaceError, Serving, Team, queue_all, queue_item, run_team, stop};
-
-/// How often it is looked whether the worker has begun an item.
-const LOOKS: u32 = 20_000_000;
 
 const PLAN: Plan = Plan {
     queues: 1,
@@ -35,13 +33,11 @@ fn team_of<R: Abort>(rt: &R, alloc: Global, plan: Plan) -> Team
 /// Want of memory and want of a thread have words of their own.
 #[test]
 fn words_of_errors(rt: HostRuntime) {
-    for (error, words) in [
+    let rows = [
         (RaceError::Memory, "memory"),
         (RaceError::Thread, "no thread"),
-    ] {
-        let said = format!(in rt.alloc(); "{error}").expect(&rt, "memory");
-        expect_same(&rt, said.as_str(), words);
-    }
+    ];
+    expect_each_words(&rt, rt.alloc(), rows.as_slice());
 }
 
 /// The worker itself executes each sender's own items and the stop item, before its queue is destroyed.
@@ -92,14 +88,10 @@ fn a_queueing_wakes(rt: HostRuntime) {
 
 /// Whether item 0, which was queued, has begun, within so many looks.
 fn has_begun<R: Abort>(rt: &R, program: &mut Sender, looks: u32) -> bool {
-    for _ in 0..looks {
+    finds(looks, || {
         assert!(rt; 0 < program.layout().items);
-        if !program.is_pending(0) {
-            return true;
-        }
-        yield_now();
-    }
-    false
+        !program.is_pending(0)
+    })
 }
 
 /// Joins a worker, where its thread could be made.

@@ -1,5 +1,6 @@
 //! As many workers of a pool as are wanted run at the same time.
 use crate::expect::expect_same;
+use crate::looks::{LOOKS, finds, has_come};
 use crate::pool::team::{Guest, GuestOf, finish_all, new_pool_for, run_beside, take_last, to_stop};
 use crate::pool::values::to_stop_with_values;
 use std::alloc::Global;
@@ -7,12 +8,9 @@ use std::process::Abort;
 use std::sync::Wait;
 use std::sync::atomic::AtomicU64;
 use std::sync::atomic::Ordering::SeqCst;
-use std::thread::{Threads, yield_now};
+use std::thread::Threads;
 use wq_pool::{Gate, ServedOf};
 use wq_worker::Station;
-
-/// So often a queue looks what the others do.
-const LOOKS: u32 = 20_000_000;
 
 /// Before the item of each of three queues it waits until all three are there, and counts the queues to which that came.
 #[derive(Drop)]
@@ -34,12 +32,8 @@ impl Meeting {
     }
 
     fn wait(&self) {
-        for _ in 0..LOOKS {
-            if self.are_all_here() {
-                self.met.fetch_add(1, SeqCst);
-                return;
-            }
-            yield_now();
+        if finds(LOOKS, || self.are_all_here()) {
+            self.met.fetch_add(1, SeqCst);
         }
     }
 }
@@ -75,25 +69,10 @@ impl Waiting {
         }
     }
 
-    /// Whether an item of queue 0 waits, within so many looks.
-    fn does_wait(&self) -> bool {
-        for _ in 0..LOOKS {
-            if self.waits.load(SeqCst) > 0 {
-                return true;
-            }
-            yield_now();
-        }
-        false
-    }
-
     fn wait(&self) {
         self.waits.store(1, SeqCst);
-        for _ in 0..LOOKS {
-            if self.ended.load(SeqCst) > 0 {
-                self.came.store(1, SeqCst);
-                return;
-            }
-            yield_now();
+        if has_come(&self.ended) {
+            self.came.store(1, SeqCst);
         }
     }
 }
@@ -168,7 +147,7 @@ fn run_late<R: Abort + Threads + Wait + Sync>(
     gate: &Waiting,
 ) {
     run_beside(rt, first, gate, || {
-        assert!(rt; gate.does_wait());
+        assert!(rt; has_come(&gate.waits));
         late.run(rt, gate)
     });
 }

@@ -1,5 +1,6 @@
 //! What a run of a pool serves, and how long a wake waits, while all places of the ready queue are taken.
 use crate::expect::expect_same;
+use crate::looks::has_come;
 use crate::pool::serving::{Two, new_two};
 use crate::pool::team::{
     Guest, Logging, empty, finish_all, finish_unfinished, new_pool_with_worker, queue_item,
@@ -14,9 +15,6 @@ use std::thread::{Threads, join, yield_now};
 use wq_live::{Answer, Sender};
 use wq_pool::{Gate, NoGate, Served};
 
-/// So often it is looked what the other thread has done.
-const LOOKS: u32 = 20_000_000;
-
 /// So often a run meets another thread that takes each place.
 const CROWDED_ROUNDS: u32 = 50;
 
@@ -25,17 +23,6 @@ const ANNOUNCEMENTS: u32 = 400_000_000;
 
 /// So often a thread yields to one that waits for a place.
 const YIELDS: u32 = 1000;
-
-/// Whether the other thread came, within so many looks.
-fn has_come(flag: &AtomicU64) -> bool {
-    for _ in 0..LOOKS {
-        if flag.load(SeqCst) > 0 {
-            return true;
-        }
-        yield_now();
-    }
-    false
-}
 
 /// Before each item it waits until the other thread has taken the last place.
 #[derive(Drop)]

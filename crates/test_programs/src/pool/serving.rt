@@ -1,16 +1,14 @@
 //! What a run of a pool serves while others queue.
+use crate::looks::{LOOKS, finds};
 use crate::pool::team::{
     Guest, Logging, empty, finish_all, finish_unfinished, new_pool_with_worker, run_beside,
 };
 use std::alloc::Global;
 use std::process::Abort;
 use std::sync::Wait;
-use std::thread::{Threads, yield_now};
+use std::thread::Threads;
 use wq_live::Sender;
 use wq_pool::{NoGate, Pool, Served};
-
-/// So often it is looked whether a queue was served.
-const LOOKS: u32 = 20_000_000;
 
 const ROUNDS: u32 = 100;
 
@@ -31,14 +29,10 @@ pub(crate) fn new_two<R: Abort>(rt: &R, alloc: Global, asks_from: u32) -> Two {
 
 /// Whether the barrier has run, within so many looks.
 pub(crate) fn is_flushed<R: Abort>(rt: &R, sender: &mut Sender) -> bool {
-    for _ in 0..LOOKS {
+    finds(LOOKS, || {
         assert!(rt; 0 < sender.layout().barriers);
-        if sender.flush_done(0) {
-            return true;
-        }
-        yield_now();
-    }
-    false
+        sender.flush_done(0)
+    })
 }
 
 /// Queues an item and a barrier behind it, and announces the queue where that wakes it.
