@@ -14,6 +14,8 @@ mod own_log;
 #[cfg(test)]
 mod own_pool;
 #[cfg(test)]
+mod patience;
+#[cfg(test)]
 mod pool;
 #[cfg(test)]
 mod race;

@@ -2,6 +2,7 @@
 ghost use Rattle.std.specs.Prelude.{◌≡◌};
 
 use crate::expect::expect_same;
+use crate::patience::Patience;
 use crate::pool::team::{Guest, Logging, finish_all, new_pool, new_queue, queue_item};
 use std::alloc::Global;
 use std::cell::Cell;
@@ -10,6 +11,7 @@ use std::sync::Wait;
 use std::sync::atomic::AtomicU64;
 use std::sync::atomic::Ordering::SeqCst;
 use std::thread::{Threads, join};
+use std::time::Clock;
 use wq_live::Sender;
 use wq_pool::{Gate, Served, Turn, Worked};
 use wq_words::Layout;
@@ -35,8 +37,8 @@ impl Pairing {
         }
     }
 
-    /// Whether all calls were pairs, but for one item that runs still, or for none.
-    fn are_pairs_but<R: Abort>(&self, rt: &R, is_running: bool) {
+    /// Panics unless all calls were pairs, but for one item that runs still, or for none.
+    fn expect_pairs_but<R: Abort>(&self, rt: &R, is_running: bool) {
         expect_same(rt, self.running.get().is_some(), is_running);
         expect_same(rt, self.are_pairs.get(), true);
     }
@@ -126,7 +128,7 @@ fn work_owing<R: Abort + Wait>(
     match turn.work(u32::MAX, gate) {
         Ok(worked) => (worked, false),
         Err(owing) => {
-            gate.are_pairs_but(rt, true);
+            gate.expect_pairs_but(rt, true);
             (go_on(rt, owing, gate), true)
         }
     }
@@ -140,7 +142,7 @@ fn serve_once<R: Abort + Wait>(rt: &R, guest: &mut Guest<'_>) -> bool {
     };
     let gate = Pairing::new();
     let (worked, is_owing) = work_owing(rt, turn, &gate);
-    gate.are_pairs_but(rt, false);
+    gate.expect_pairs_but(rt, false);
     guest.pool.put_back(&mut guest.caller, worked);
     is_owing
 }
@@ -174,15 +176,20 @@ fn owes_once<R: Abort + Threads + Wait + Sync>(
     is_owing
 }
 
-fn owes_at_last<R: Abort + Threads + Wait + Sync>(
+/// Whether a turn owed an execution, while two senders disturbed again and again, for as long as the test has patience.
+fn owes_at_last<R: Abort + Clock + Threads + Wait + Sync>(
     rt: &R,
     mut guest: Guest<'_>,
     first: &mut Sender,
     second: &mut Sender,
 ) -> bool {
-    for _ in 0..100u32 {
+    let patience = Patience::begin(rt);
+    for _ in 0..u32::MAX {
         if owes_once(rt, &mut guest, first, second) {
             return true;
+        }
+        if patience.is_over(rt) {
+            return false;
         }
     }
     false
