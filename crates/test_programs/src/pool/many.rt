@@ -37,15 +37,20 @@ struct Queues {
     senders: Vec<Mutex<Sender>>,
 }
 
+/// Puts the senders of a queue behind those of others, each under a lock of its own.
+fn lock_each<R: Abort>(rt: &R, senders: &mut Vec<Mutex<Sender>>, own: Vec<Sender>) {
+    for sender in own {
+        senders.push(Mutex::new(sender)).expect(rt, "memory");
+    }
+}
+
 fn new_queues<R: Abort>(rt: &R, alloc: Global) -> Queues {
     let layout = Layout::new(ITEMS, 1, SENDERS).expect(rt, "a layout");
     let (mut all, mut senders) = (Vec::new(alloc), Vec::new(alloc));
     for _ in 0..QUEUES {
         let (served, own) = new_queue(rt, alloc, layout, Logging::new());
         all.push(served).expect(rt, "memory");
-        for sender in own {
-            senders.push(Mutex::new(sender)).expect(rt, "memory");
-        }
+        lock_each(rt, &mut senders, own);
     }
     Queues {
         served: all,
@@ -152,15 +157,20 @@ fn ran_in_order(order: &[u32], thread: u32) -> bool {
     next == last
 }
 
-/// Each queue has run the items of all threads, each thread's in its order, and no others.
+/// A queue has run the items of all threads, each thread's in its order, and no others.
+fn check_order<R: Abort>(rt: &R, order: &[u32]) {
+    expect_same(rt, order.len(), ITEMS as usize);
+    for thread in 0..THREADS {
+        assert!(rt; ran_in_order(order, thread));
+    }
+}
+
+/// Each queue has run so.
 fn check_orders<R: Abort>(rt: &R, pool: Pool<Logging>) {
     let finished = pool.finish(0).expect(rt, "all finished");
     expect_same(rt, finished.len(), QUEUES as usize);
     for (work, _) in finished.as_slice() {
-        expect_same(rt, work.order.as_slice().len(), ITEMS as usize);
-        for thread in 0..THREADS {
-            assert!(rt; ran_in_order(work.order.as_slice(), thread));
-        }
+        check_order(rt, work.order.as_slice());
     }
 }
 
