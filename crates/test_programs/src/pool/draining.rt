@@ -24,11 +24,10 @@ const WAKES: Answer = Answer::Queued {
     wakes: true,
 };
 
-/// A worker of a queue of 104 items, whose work asks for an item below 100 where it runs one from a number on, and its sender.
-fn new_worker<R: Abort>(rt: &R, alloc: Global, asks_from: u32) -> (Worker<Logging>, Sender) {
+/// A worker of a queue of 104 items, whose work asks for an item below 100 where it runs one from 100 on, and its sender.
+fn new_worker<R: Abort>(rt: &R, alloc: Global) -> (Worker<Logging>, Sender) {
     let layout = Layout::new(104, 1, 2).expect(rt, "a layout");
-    let Ok((worker, mut senders)) = Worker::build(alloc, layout, Logging::asking(asks_from), 1)
-    else {
+    let Ok((worker, mut senders)) = Worker::build(alloc, layout, Logging::asking(100), 1) else {
         panic!(rt; "no memory for a queue")
     };
     (worker, senders.pop().expect(rt, "a sender"))
@@ -49,7 +48,7 @@ fn served(mut worker: Worker<Logging>) -> Option<Served<Logging>> {
 
 /// A queue that was drained to its end in two calls, the first of which came to its limit; its sender.
 fn drained<R: Abort>(rt: &R, alloc: Global) -> (Served<Logging>, Sender) {
-    let (mut worker, mut sender) = new_worker(rt, alloc, 100);
+    let (mut worker, mut sender) = new_worker(rt, alloc);
     queue_item(rt, &mut sender, 103);
     queue_item(rt, &mut sender, 1);
     expect_same(rt, worker.drain(1), Drained::TooLong { left: 2 });
@@ -79,34 +78,4 @@ fn drained_queue_is_served(rt: HostRuntime) {
         panic!(rt; "not one queue")
     };
     expect_same(&rt, ran.order.as_slice(), [103, 1, 3, 2, 0, 1].as_slice());
-}
-
-/// A destroy comes to its limit, and gives the worker back with the queue closed.
-fn destroy_in_vain<R: Abort>(
-    rt: &R,
-    worker: Worker<Logging>,
-    sender: &mut Sender,
-) -> Worker<Logging> {
-    let Err(unfinished) = worker.destroy(5) else {
-        panic!(rt; "a drain that ended")
-    };
-    expect_same(rt, unfinished.left, 1);
-    assert!(rt; unfinished.worker.is_closed());
-    expect_same(rt, queue_item(rt, sender, 2), Answer::Closed);
-    unfinished.worker
-}
-
-/// A worker whose drain never ends, since what it runs asks for itself, is not handed over, and no call waits for its end. A
-/// destroy gives it back again and again, with the queue closed.
-#[test]
-fn endless_drain_is_given_back(rt: HostRuntime) {
-    let (mut worker, mut sender) = new_worker(&rt, rt.alloc(), 3);
-    queue_item(&rt, &mut sender, 3);
-    for _ in 0..3u32 {
-        expect_same(&rt, worker.drain(5), Drained::TooLong { left: 1 });
-        assert!(rt; worker.is_draining());
-        expect_same(&rt, queue_item(&rt, &mut sender, 2), Answer::Draining);
-    }
-    let worker = destroy_in_vain(&rt, worker, &mut sender);
-    destroy_in_vain(&rt, worker, &mut sender);
 }
