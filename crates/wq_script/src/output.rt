@@ -35,9 +35,9 @@ fn output_text(alloc: Global, script: &Script) -> Result<String, AllocError>
 
 /// Runs a script on a new queue, each command as one call taken whole, and gives the bytes of its output: for each command
 /// the lines of what it answers, by the rules of Linux's ordered workqueues (`core-api/workqueue`, the kernel-doc of
-/// `workqueue.c`). Each sender of the script is a sender of the queue, the worker has the number behind them and the delay
-/// table the next; no other seat exists, so none is ever in the way. All events of the run are a legal history of that queue.
-/// The only error is want of memory.
+/// `workqueue.h` and `workqueue.c`). Each sender of the script is a sender of the queue, the worker has the number behind
+/// them and the delay table the next; no other seat exists, so none is ever in the way. All events of the run are a legal
+/// history of that queue. The only error is want of memory.
 pub fn run(alloc: Global, script: &Script) -> Result<Vec<u8>, RunError>
     ensures output { IfOk result (λ bytes. bytes.items ≡ output_of (layout_of script.now) (commands_of script.now)) }
     ensures legal { IfOk result (λ _. HasLegalHistory (layout_of script.now) (commands_of script.now)) }
