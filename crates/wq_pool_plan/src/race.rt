@@ -10,14 +10,14 @@ ghost use Rattle.wq_pool_plan.specs.Outcome.{TellsPlan};
 use crate::outcome::{balance_all, finish};
 use crate::sending::{queue_group, stop_all};
 use crate::teams::{Group, Teams, turned};
-use std::alloc::Global;
+use std::alloc::{AllocError, Global};
 use std::snapshot::Snapshot;
 use std::sync::Wait;
 use std::thread::{JoinHandle, Promise, PromisedHandle, Scope, Threads, scope, scope_env};
 use wq_live::Sender;
 use wq_plan::Plan;
 use wq_pool::{Caller, NoGate, Pool, PoolError, Served};
-use wq_race::{Idle, Outcome, RaceError, join_wanted, keep_handle, run_plan};
+use wq_race::{Idle, Outcome, RaceError, join_wanted, run_plan};
 
 /// A thread gives back the group that it was given, whose senders have each queued their own items: so many.
 #[derive(Drop)]
@@ -125,8 +125,8 @@ fn start_group<'s, E, R: Wait + Sync>(
         .ok()
 }
 
-// A thread for each group, up to the first that could not be made.
-fn start_groups<'s, E, R: Threads + Wait + Sync>(
+// A thread for each group, up to the first that could not be made. There is room for their handles before the first of them.
+fn start_groups<'s, E, R: Wait + Sync>(
     scope: &Scope<'s, E>,
     rt: &'s R,
     alloc: Global,
@@ -134,26 +134,24 @@ fn start_groups<'s, E, R: Threads + Wait + Sync>(
     mut callers: Vec<Caller>,
     groups: Vec<Group>,
     own: u32,
-) -> Vec<PromisedHandle<Group, QueuesGroup>>
+) -> Result<Vec<PromisedHandle<Group, QueuesGroup>>, AllocError>
     requires callers { All (IsCallerOf pool.now.ready) callers.items }
     requires enough { length groups.items ≤ length callers.items }
     requires ready { All (IsGroupFor own pool.now) groups.items }
-    ensures few { length result.items ≤ length groups.items }
-    ensures given { AreGroupThreads own groups.items result.items }
+    ensures few { IfOk result (λ handles. length handles.items ≤ length groups.items) }
+    ensures given { IfOk result (λ handles. AreGroupThreads own groups.items handles.items) }
 {
-    let mut handles = Vec::new(alloc);
+    let mut handles = Vec::with_capacity(alloc, groups.len())?;
     for group in groups {
         let Some(caller) = callers.pop() else {
             unreachable!()
         };
         let Some(handle) = start_group(scope, rt, pool, caller, group, own) else {
-            return handles;
+            return Ok(handles);
         };
-        if !keep_handle(rt, &mut handles, handle) {
-            return handles;
-        }
+        handles.push_reserved(handle);
     }
-    handles
+    Ok(handles)
 }
 
 // The senders of each number queue their own items in a thread. Where a thread could not be made, those that were made go to
@@ -173,7 +171,7 @@ fn run_groups<'s, E, R: Threads + Wait + Sync>(
     ensures { IfOk result (λ back. AllGroupsQueued own groups.items back.items) }
 {
     let count = groups.len();
-    let handles = start_groups(scope, rt, alloc, pool, callers, groups, own);
+    let handles = start_groups(scope, rt, alloc, pool, callers, groups, own)?;
     join_wanted(rt, handles, count)
 }
 

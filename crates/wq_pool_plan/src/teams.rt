@@ -24,16 +24,15 @@ pub(crate) struct Teams {
     pub(crate) groups: Vec<Group>,
 }
 
-// Groups without a sender.
-fn empty_groups(alloc: Global, count: u32) -> Result<Vec<Group>, AllocError>
+// Groups without a sender, each with room for so many.
+fn empty_groups(alloc: Global, count: u32, room: usize) -> Result<Vec<Group>, AllocError>
     ensures count { IfOk result (λ groups. length groups.items ≡ count) }
     ensures empty { IfOk result (λ groups. All (λ group. group.senders.items ≡ []) groups.items) }
 {
     let mut groups = Vec::with_capacity(alloc, count as usize)?;
     for _ in 0..count {
-        groups.push(Group {
-            senders: Vec::new(alloc),
-        })?;
+        let senders = Vec::with_capacity(alloc, room)?;
+        groups.push(Group { senders })?;
     }
     Ok(groups)
 }
@@ -60,7 +59,7 @@ pub(crate) fn turned(
     requires { All (λ group. length group.senders.items ≡ count) groups.items }
     ensures { IfOk result (λ turned. AreTurned count groups.items turned.items) }
 {
-    let mut turned = empty_groups(alloc, count)?;
+    let mut turned = empty_groups(alloc, count, groups.len())?;
     for group in groups {
         deal(&mut turned, group.senders)?;
     }
@@ -68,15 +67,16 @@ pub(crate) fn turned(
 }
 
 impl Teams {
-    // No queue yet.
+    // No queue yet, and room for the plan's.
     fn none(alloc: Global, plan: Plan) -> Result<Teams, AllocError>
         ensures none { IfOk result (λ teams. teams.served.items ≡ []) }
         ensures teams { IfOk result (AreTeams plan) }
     {
+        let queues = plan.queues as usize;
         Ok(Teams {
-            served: Vec::new(alloc),
-            programs: Vec::new(alloc),
-            groups: empty_groups(alloc, plan.senders)?,
+            served: Vec::with_capacity(alloc, queues)?,
+            programs: Vec::with_capacity(alloc, queues)?,
+            groups: empty_groups(alloc, plan.senders, queues)?,
         })
     }
 

@@ -4,13 +4,20 @@ use Rattle.wq_calls.proofs.Seated.{all_last}
 use Rattle.wq_pool_plan.specs.Race.{IsGroupFor}
 use Rattle.wq_pool_plan.proofs.race.start_groups.Goals as goal
 
+pub push_reserved-requires : goal.push_reserved-requires
+push_reserved-requires g c =
+    let i = c.into_iter-group-iterator.ensures.into_iter_gives in let l = c.loop-group in
+    let turn = YieldsList-turn (YieldsList-from_vec {s = c.into_iter-group-iterator.result} c.args.groups.items i.0 (i.1
+    ∙ c.args.groups.ok.0)) l.yielded l.group-iterator l.yielded_by c.next.result c.next.new.self c.in-Some.group c.in-Some.is c.next.ensures.steps in
+    omega (arith, turn.0, l.invariant.count, l.invariant.room, l.handles.ok.0, c.args.groups.ok.0)
+
 pub loop-group-preserved : goal.loop-group-preserved
 loop-group-preserved g c =
     let i = c.into_iter-group-iterator.ensures.into_iter_gives in let l = c.loop-group in
     let turn = YieldsList-turn (YieldsList-from_vec {s = c.into_iter-group-iterator.result} c.args.groups.items i.0 (i.1
     ∙ c.args.groups.ok.0)) l.yielded l.group-iterator l.yielded_by c.next.result c.next.new.self c.in-Some.group c.in-Some.is c.next.ensures.steps in
     let xs = l.handles.items in let h = c.in-Some-start_group.handle in let all = c.args.groups.items in
-    let kept = c.if-not-keep_handle.ensures.kept in
+    let kept = c.push_reserved.ensures.items in
     let P : ℕ → PromisedHandle Group QueuesGroup → Type 0 = λ k handle. (e : Group)
     → (handle.promise.group.value ≡ get_or all k e) × (handle.promise.own ≡ c.args.own) in
     let here : P (length xs) h = λ e.
@@ -21,19 +28,13 @@ loop-group-preserved g c =
     ∙ length-append c.pop.new.self.items (c.in-Some-pop.caller ∷ [])) in
     record {
       count = ap length kept ∙ omega (arith, l.invariant.count, length-append xs (h ∷ []), length-append l.yielded (c.in-Some.group ∷ []));
+      room = omega (arith, c.push_reserved.ensures.capacity, l.invariant.room);
       given = λ k d e lt. subst (λ (hs : List (PromisedHandle Group QueuesGroup)). P k (get_or hs k d)) (sym kept)
           (each_more P xs h (λ k d lt e. l.invariant.given k d e lt) here k d (omega (arith, lt, ap length kept))) e;
       callers = subst (All (IsCallerOf c.args.pool.now.ready)) (sym c.pop.ensures.rest)
           (All-take (IsCallerOf c.args.pool.now.ready) (vec_len l.callers - 1) l.callers.items l.invariant.callers);
       enough = omega (arith, l.invariant.enough, fewer, length-append l.yielded (c.in-Some.group ∷ []));
     }
-
-pub returns-then-not-keep_handle-clause-given : goal.returns-then-not-keep_handle-clause-given
-returns-then-not-keep_handle-clause-given g c = λ k d e lt.
-    let kept = c.if-not-keep_handle.ensures.kept in
-    subst (λ (hs : List (PromisedHandle Group QueuesGroup)). ((get_or hs k d).promise.group.value ≡ get_or c.args.groups.items k e)
-    × ((get_or hs k d).promise.own ≡ c.args.own)) (sym kept)
-    (c.loop-group.invariant.given k d e (omega (arith, lt, ap length kept)))
 
 -- a caller for each of the groups that are left
 pub unreachable-requires : goal.unreachable-requires
