@@ -13,4 +13,4 @@ pub use race::{
     RaceError, Serves, Serving, queue_all, queue_item, queue_stop, run_plan, run_team, stop,
 };
 pub use team::Team;
-pub use threads::{join_wanted, keep_handle};
+pub use threads::join_wanted;

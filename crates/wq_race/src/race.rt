@@ -10,7 +10,7 @@ ghost use Rattle.wq_race.specs.Outcome.{IsWhole, TellsRace};
 use crate::idle::Idle;
 use crate::outcome::Outcome;
 use crate::team::Team;
-use crate::threads::{join_wanted, keep_handle};
+use crate::threads::join_wanted;
 use crossbeam_utils::sync::{Parker, Unparker};
 use std::alloc::{AllocError, Global};
 use std::snapshot::Snapshot;
@@ -188,29 +188,27 @@ fn start_worker<'s, E, R: Wait + Sync>(
         .ok()
 }
 
-// A thread for each sender, up to the first that could not be made.
-fn start_senders<'s, E, R: Threads + Wait + Sync>(
+// A thread for each sender, up to the first that could not be made. There is room for their handles before the first of them.
+fn start_senders<'s, E, R: Wait + Sync>(
     scope: &Scope<'s, E>,
     rt: &'s R,
     alloc: Global,
     senders: Vec<Sender>,
     own: u32,
     unparker: &Unparker,
-) -> Vec<PromisedHandle<Sender, QueuesOwn>>
+) -> Result<Vec<PromisedHandle<Sender, QueuesOwn>>, AllocError>
     requires { All (λ s. s.number * own + own ≤ s.layout.items) senders.items }
-    ensures few { length result.items ≤ length senders.items }
-    ensures given { AreThreads own senders.items result.items }
+    ensures few { IfOk result (λ handles. length handles.items ≤ length senders.items) }
+    ensures given { IfOk result (λ handles. AreThreads own senders.items handles.items) }
 {
-    let mut handles = Vec::new(alloc);
+    let mut handles = Vec::with_capacity(alloc, senders.len())?;
     for sender in senders {
         let Some(handle) = start_sender(scope, rt, sender, own, unparker) else {
-            return handles;
+            return Ok(handles);
         };
-        if !keep_handle(rt, &mut handles, handle) {
-            return handles;
-        }
+        handles.push_reserved(handle);
     }
-    handles
+    Ok(handles)
 }
 
 // Each sender queues its own items in a thread. Where a thread could not be made, those that were made go to their end. All
@@ -227,7 +225,7 @@ fn run_senders<'s, E, R: Threads + Wait + Sync>(
     ensures { IfOk result (λ back. AllQueued own senders.items back.items) }
 {
     let count = senders.len();
-    let handles = start_senders(scope, rt, alloc, senders, own, unparker);
+    let handles = start_senders(scope, rt, alloc, senders, own, unparker)?;
     join_wanted(rt, handles, count)
 }
 

@@ -1,26 +1,9 @@
 //! Threads whose handles are kept in a list.
-ghost use Rattle.std.specs.Prelude.{◌≡◌, if◌then◌else◌, [], ◌∷◌, ◌++◌, vec_len, IfOk};
+ghost use Rattle.std.specs.Prelude.{◌≡◌, vec_len, IfOk};
 ghost use Rattle.std.specs.PromisedHandle.{KeepsEach};
 
 use crate::race::RaceError;
 use std::thread::{Promise, PromisedHandle, Threads, join_promised};
-
-/// Keeps the handle of a thread, and answers whether it could; where no memory can be had for that, the thread is joined.
-pub fn keep_handle<R: Threads, T: Drop, P: Promise<T>>(
-    rt: &R,
-    handles: &mut Vec<PromisedHandle<T, P>>,
-    handle: PromisedHandle<T, P>,
-) -> bool
-    ensures kept { handles.new.items ≡ (if result then handles.old.items ++ handle ∷ [] else handles.old.items) }
-{
-    match handles.push(handle) {
-        Ok(()) => true,
-        Err(refused) => {
-            let _ = refused.value.join(rt);
-            false
-        }
-    }
-}
 
 // Joins threads of which nobody takes what they give back.
 fn join_unheard<R: Threads, T: Drop, P: Promise<T>>(rt: &R, handles: Vec<PromisedHandle<T, P>>) {
