@@ -1,5 +1,5 @@
 -- The rules of histories and of traces fit their lines.
-use Rattle.wq_recording.proofs.Common.{◌≡◌, ℕ, Bool, true, false, List, [], ◌∷◌, Option, Some, None, Result, Ok, Err, ap}
+use Rattle.wq_recording.proofs.Common.{◌≡◌, ℕ, Bool, true, false, List, [], ◌∷◌, Option, Some, None, Result, Ok, Err, sym, ap}
 use Rattle.wq_recording.proofs.Common.{Layout, Kind, Stage, Grammar, line_gives, recording_line, none-some}
 use Rattle.std.specs.Prelude.{if◌then◌else◌}
 use Rattle.std.specs.Str.{bytes_eq}
@@ -9,13 +9,14 @@ use Rattle.wq_text.specs.Fault.{◌>>=◌, need, found, of_none, of_one}
 use Rattle.wq_text.specs.Header.{is_header, header_line_gives, layout_at}
 use Rattle.wq_text.specs.Line.{plain_line_gives, words_give, by_words, asking_line, is_passed_over}
 use Rattle.wq_text.specs.Word.{words}
+use Rattle.wq_words.proofs.Cases.{same_ok}
 use Rattle.wq_words.proofs.Legal.{legal_next}
 use Rattle.wq_recording.specs.History.{history_grammar}
 use Rattle.wq_recording.specs.HistoryReport.{history_rules}
 use Rattle.wq_recording.specs.Trace.{trace_grammar}
 use Rattle.wq_recording.specs.TraceReport.{trace_rules}
 use Rattle.wq_recording.proofs.OneCause.{one_event_cause, one_mark_cause, shown_next}
-use Rattle.wq_recording.proofs.Stages.{stays, passed}
+use Rattle.wq_recording.proofs.Stages.{stays, ok_behind_need}
 use Rattle.wq_recording.proofs.Verdicts.{AreFit}
 
 -- only behind a whole header is anything asked for
@@ -30,10 +31,7 @@ module _ {N A : Type 0} (g : Grammar N A) (s next : Stage) (a : A) where
   alone n = (n, None)
 
   by_ask : (l : Layout) (r : Result A Kind) → of_one (asked l) r ≡ Ok (next, Some a) → IsWhole
-  by_ask l (Ok b) e = (l, first_of (stage.Commands l, Some b) (next, Some a) e)
-    where
-      first_of : (x y : Stage × Option A) → ◌≡◌ {A = Result (Stage × Option A) Kind} (Ok x) (Ok y) → y.0 ≡ x.0
-      first_of x y e = let same : y ≡ x = cc in ap (λ (p : Stage × Option A). p.0) same
+  by_ask l (Ok b) e = (l, ap (λ (p : Stage × Option A). p.0) (sym (same_ok e)))
   by_ask l (Err k) e = cc
 
   by_layout : (name : N) (w : List ℕ) (ws : List (List ℕ)) (o : Option Layout)
@@ -47,11 +45,8 @@ module _ {N A : Type 0} (g : Grammar N A) (s next : Stage) (a : A) where
   by_name w ws None e = cc
   by_name w ws (Some name) e = by_layout name w ws (layout_at s) e
 
-  ok_value : (x y : Stage × Option A) → ◌≡◌ {A = Result (Stage × Option A) Kind} (Ok x) (Ok y) → x ≡ y
-  ok_value x y e = cc
-
   none_asked : (r : Result Stage Kind) → ◌≡◌ {A = Result (Stage × Option A) Kind} (of_one alone r) (Ok (next, Some a)) → ⊥
-  none_asked (Ok n) e = absurd (none-some a (ap (λ (z : Stage × Option A). z.1) (ok_value (alone n) (next, Some a) e)))
+  none_asked (Ok n) e = absurd (none-some a (ap (λ (z : Stage × Option A). z.1) (same_ok e)))
   none_asked (Err k) e = cc
 
   by_first : (w : List ℕ) (ws : List (List ℕ)) (b : Bool)
@@ -65,15 +60,15 @@ module _ {N A : Type 0} (g : Grammar N A) (s next : Stage) (a : A) where
 
   asks_plain : (line : List ℕ) (b : Bool) → (if b then Ok (s, None) else plain_line_gives g s line) ≡ Ok (next, Some a) → IsWhole
   unfolding plain_line_gives words_give
-  asks_plain line true e = absurd (none-some a (ap (λ (z : Stage × Option A). z.1) (ok_value (alone s) (next, Some a) e)))
-  asks_plain line false e = asks_words (words line) (passed kind.Space _ _ _ (passed kind.Bytes _ _ _ e))
+  asks_plain line true e = absurd (none-some a (ap (λ (z : Stage × Option A). z.1) (same_ok e)))
+  asks_plain line false e = asks_words (words line) (ok_behind_need kind.Space _ _ _ (ok_behind_need kind.Bytes _ _ _ e))
 
 asks_line : {N A : Type 0} (g : Grammar N A) (s next : Stage) (a : A) (line : List ℕ) → line_gives g s line ≡ Ok (next, Some a)
     → (l : Layout) × (next ≡ stage.Commands l)
 asks_line {N} {A} g stage.Version next a line e = absurd (none (need kind.Version (bytes_eq line g.version)) e)
   where
     none : (r : Result (Unit {0}) Kind) → ◌≡◌ {A = Result (Stage × Option A) Kind} (of_none (stage.Items, None) r) (Ok (next, Some a)) → ⊥
-    none (Ok n) e = none-some a (ap (λ (z : Stage × Option A). z.1) (ok_value g stage.Version next a (stage.Items, None) (next, Some a) e))
+    none (Ok n) e = none-some a (ap (λ (z : Stage × Option A). z.1) (same_ok e))
     none (Err k) e = cc
 asks_line g stage.Items next a line e = asks_plain g stage.Items next a line (is_passed_over line) e
 asks_line g (stage.Senders l) next a line e = asks_plain g (stage.Senders l) next a line (is_passed_over line) e
@@ -82,16 +77,16 @@ asks_line g (stage.Commands l) next a line e = asks_plain g (stage.Commands l) n
 
 pub history_fits : AreFit (recording_line history_grammar) history_rules
 history_fits = record {
-  stays = λ l line next one e. stays history_grammar l next one line (passed kind.Size _ _ _ e);
-  asks = λ s next a line e. asks_line history_grammar s next a line (passed kind.Size _ _ _ e);
+  stays = λ l line next one e. stays history_grammar l next one line (ok_behind_need kind.Size _ _ _ e);
+  asks = λ s next a line e. asks_line history_grammar s next a line (ok_behind_need kind.Size _ _ _ e);
   clash = λ layout h e more c legal cause. cause.0.2 (legal_next layout h e more legal).2;
   one_cause = λ layout h e c d x y. one_event_cause h e c d x.1 y.1;
 }
 
 pub trace_fits : AreFit (recording_line trace_grammar) trace_rules
 trace_fits = record {
-  stays = λ l line next one e. stays trace_grammar l next one line (passed kind.Size _ _ _ e);
-  asks = λ s next a line e. asks_line trace_grammar s next a line (passed kind.Size _ _ _ e);
+  stays = λ l line next one e. stays trace_grammar l next one line (ok_behind_need kind.Size _ _ _ e);
+  asks = λ s next a line e. asks_line trace_grammar s next a line (ok_behind_need kind.Size _ _ _ e);
   clash = λ layout t m more c legal cause. cause.1 (shown_next layout t m more legal);
   one_cause = λ layout t m c d x y. one_mark_cause t m c d x.2 y.2;
 }

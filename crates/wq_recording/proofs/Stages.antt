@@ -2,6 +2,7 @@
 use Rattle.wq_recording.proofs.Common.{◌≡◌, ℕ, Bool, true, false, List, [], ◌∷◌, Option, Some, None, IfSome, Result, Ok, Err, refl, sym, ap, subst}
 use Rattle.wq_recording.proofs.Common.{Layout, Kind, Stage, Grammar, line_gives, IsMadeAt}
 use Rattle.std.proofs.lemmas.List.Elements.{All-nil, All-head}
+use Rattle.wq_words.proofs.Cases.{same_ok}
 use Rattle.wq_text.specs.declared.header.Stage.TheVariants as stage
 use Rattle.wq_text.specs.declared.fault.Kind.TheVariants as kind
 use Rattle.wq_text.specs.Fault.{◌>>=◌, need, found, of_one}
@@ -11,12 +12,10 @@ use Rattle.wq_text.specs.Sound.{KeepsSound, SoundAt}
 use Rattle.wq_text.specs.Word.{words}
 use Rattle.std.specs.Prelude.{if◌then◌else◌}
 
-pub passed : {B : Type 0} (k : Kind) (b : Bool) (r : Result B Kind) (x : B) → (need k b >>= λ _. r) ≡ Ok x → r ≡ Ok x
-passed k true r x e = e
-passed k false r x e = cc
-
-first_of : {A : Type 0} (x y : Stage × Option A) → ◌≡◌ {A = Result (Stage × Option A) Kind} (Ok x) (Ok y) → x.0 ≡ y.0
-first_of {A} x y e = let same : x ≡ y = cc in ap (λ (p : Stage × Option A). p.0) same
+-- where a need and what stands behind it give a value, what stands behind it gives that
+pub ok_behind_need : {B : Type 0} (k : Kind) (b : Bool) (r : Result B Kind) (x : B) → (need k b >>= λ _. r) ≡ Ok x → r ≡ Ok x
+ok_behind_need k true r x e = e
+ok_behind_need k false r x e = cc
 
 -- behind a whole header the stage stays
 module _ {N A : Type 0} (g : Grammar N A) (l : Layout) (next : Stage) (one : Option A) where
@@ -27,7 +26,7 @@ module _ {N A : Type 0} (g : Grammar N A) (l : Layout) (next : Stage) (one : Opt
       asked a = (stage.Commands l, Some a)
 
       by_ask : (r : Result A Kind) → of_one asked r ≡ Ok (next, one) → next ≡ stage.Commands l
-      by_ask (Ok a) e = sym (first_of (stage.Commands l, Some a) (next, one) e)
+      by_ask (Ok a) e = ap (λ (p : Stage × Option A). p.0) (sym (same_ok e))
       by_ask (Err k) e = cc
 
       by_name : (o : Option N)
@@ -52,8 +51,8 @@ module _ {N A : Type 0} (g : Grammar N A) (l : Layout) (next : Stage) (one : Opt
     where
       by_passing : (b : Bool) → (if b then Ok (stage.Commands l, None) else plain_line_gives g (stage.Commands l) line) ≡ Ok (next, one)
           → next ≡ stage.Commands l
-      by_passing true e = sym (first_of (stage.Commands l, None) (next, one) e)
-      by_passing false e = stays_words (words line) (passed kind.Space _ _ _ (passed kind.Bytes _ _ _ e))
+      by_passing true e = ap (λ (p : Stage × Option A). p.0) (sym (same_ok e))
+      by_passing false e = stays_words (words line) (ok_behind_need kind.Space _ _ _ (ok_behind_need kind.Bytes _ _ _ e))
 
 pub made_behind : {N A C : Type 0} (g : Grammar N A) (layout_of : C → Layout) (s next : Stage) (one : Option A) (checker : Option C) (line : List ℕ)
     → IsMadeAt layout_of s checker → line_gives g s line ≡ Ok (next, one) → IsMadeAt layout_of next checker
