@@ -69,10 +69,11 @@ fn write_head(
 fn left_numbers<L: Recording>(alloc: Global, checker: &L::Checker) -> Result<Vec<u32>, AllocError>
     ensures left { IfOk result (λ numbers. (h : List L.Event) → L.is_after checker.now h → numbers.items ≡ L.rules.left h) }
 {
-    let mut numbers = Vec::new(alloc);
-    for place in 0..L::left_count(checker) {
+    let count = L::left_count(checker);
+    let mut numbers = Vec::with_capacity(alloc, count)?;
+    for place in 0..count {
         if let Some(number) = L::left_at(checker, place) {
-            numbers.push(number)?;
+            numbers.push_reserved(number);
         }
     }
     Ok(numbers)
