@@ -36,8 +36,8 @@ pub enum PoolError {
     Memory,
 }
 
-/// Queues, each by its place, and the ready queue of those that were announced. Threads share it by `&`. No call takes a lock,
-/// and none but `new` and `finish` takes memory.
+/// Queues, each by its place, and the ready queue of those that were announced. Threads share it by `&`. No call takes a lock.
+/// None but `new` and `finish` takes memory, but that a `run` by two callers or more takes some for each further thread.
 #[derive(Drop)]
 pub struct PoolOf<K: Station> {
     pub(crate) slots: Slots<K>,
@@ -162,7 +162,8 @@ impl<K: Station + Drop> PoolOf<K> {
     }
 
     /// Takes the queue that was announced first in hand. It waits until that queue is in its slot: for good where its turn was
-    /// dropped, or where this very thread has it in hand. `None` only where nothing could wait, by all that this caller has seen.
+    /// dropped, or where this very thread has it in hand. `None` only where the ready queue could be empty, by all that this
+    /// caller has seen.
     pub fn pick<R: Wait>(&self, rt: &R, caller: &mut Caller) -> Option<TurnOf<K>>
         requires { IsCallerOf self.now.ready caller.old }
         ensures seen { Picks (option_map queue_in_turn result) caller.old caller.new }

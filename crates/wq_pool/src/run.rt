@@ -210,9 +210,9 @@ impl<K: Station + Drop + Send> PoolOf<K> {
     }
 
     /// Serves what is announced, in one thread for each caller, until every queue has run its stop item since the pool was
-    /// made. Where no thread can be made the callers serve in turn. Each caller comes back with what it has seen. A caller that
-    /// finds nothing announced gives its processor way and looks again; it does not park. With no caller it ends at once, and so it
-    /// does where each stop item has run before: what is queued after that is to be worked on by `pick`.
+    /// made. Where no thread can be made, or no memory had for one, the callers serve in turn. Each caller comes back with what it
+    /// has seen. A caller that finds nothing announced gives its processor way and looks again; it does not park. With no caller it
+    /// ends at once, and so it does where each stop item has run before: what is queued after that is to be worked on by `pick`.
     ///
     /// What it leaves is announced when it ends, for `pick`: a queue in hand of which something is left is announced again, and so
     /// is one that was taken off the ready queue and not looked at. One that was announced more than once may be so but once then.
