@@ -14,13 +14,17 @@ use wq_worker::Station;
 
 /// Which workers were handed in, by place, and what each was then. No value of it is made.
 pub struct HandedIn<K> {
+    /// Which worker it is, by place.
     pub workers: GhostList<WorkerId>,
+    /// What it was when it was handed in, by place.
     pub states: GhostList<K>,
 }
 
 /// What a seat knows: the queue that it has in hand, and what was handed in. No value of it is made.
 pub struct Hand<K> {
+    /// The number of the queue in hand, if there is one.
     pub queue: Option<u64>,
+    /// What was handed in.
     pub handed: HandedIn<K>,
 }
 
