@@ -1,7 +1,7 @@
 -- The names that several proofs cite, passed on from one place. Declares nothing.
 pub use Rattle.std.proofs.Common.{◌≡◌, ℕ, zero, suc, ◌+◌, ◌-◌, ◌*◌, ◌/◌, ◌%◌, ◌<◌, ◌≤◌, min, Bool, true, false, cond, not, ◌&&◌, ◌||◌, eqb, ◌≢◌, ◌↔◌, List, []}
-pub use Rattle.std.proofs.Common.{◌∷◌, ◌++◌, map, length, get_or, take, drop, set, replicate, is_some, is_ok, IfOk, OnErr, IsTrue, nat_lt, nat_le, ◌==◌}
-pub use Rattle.std.proofs.Common.{slice_index, Some, None, Ok, Err, vec_len, vec_capacity, All, sum_by, count_by, filter, Option, Result, IsPermutation}
+pub use Rattle.std.proofs.Common.{◌∷◌, ◌++◌, map, length, get_or, take, drop, set, replicate, is_some, IfOk, IsTrue, nat_lt, nat_le, ◌==◌}
+pub use Rattle.std.proofs.Common.{slice_index, Some, None, Ok, vec_capacity, All, sum_by, count_by, filter, Option, IsPermutation}
 pub use Rattle.std.proofs.Common.{IsSortedBy, nat_cmp, is_lt, Ordering, Less, Equal, Greater, sym, refl, ap, ◌∙◌, subst, inl, inr, append_assoc, mod-lt, arith}
 pub use Rattle.std.proofs.Common.{length-append, get_or-set_other, get_or-set_same, rules}
 pub use Rattle.std.proofs.Math.Nat.{mod-add-div', add-mul-mod_self_right, mod-le}

@@ -5,8 +5,8 @@ use Rattle.wq_delay.proofs.Common.{add-mul-mod_self_right, nat_tests, get_or_rea
 use Rattle.wq_delay.proofs.Common.{IsWheel, AreOnTable, AreFound, entry_at, AreRings, same_Some}
 use Rattle.wq_delay.proofs.Rounds.{at_or}
 use Rattle.wq_delay.proofs.Standing.{later_same, later_some}
-use Rattle.wq_delay.proofs.Looking.{on_push, steps_left, steps_fewer, less_number}
-use Rattle.wq_delay.proofs.Fitting.{place_low, more_on_table}
+use Rattle.wq_delay.proofs.Looking.{on_push, more_on_table, steps_left, steps_fewer, less_number}
+use Rattle.wq_delay.proofs.Fitting.{place_low}
 use mathlib.Core.Bool.{and-false, or-false}
 
 -- the slot of a later tick is the n-th after that of the tick t where its turn is n
@@ -38,13 +38,13 @@ pub record Finding (places : List (Option Place)) (t now n head : ℕ) (es : Lis
   pub which : (k : ℕ) (p : Place) → place_in places k ≡ Some p
       → on_table k es ≡ (nat_le p.due now && is_passed t n (is_behind head x p (number_by (later_than t (place_in places x)))) p)
 
--- tests that differ where the slot is this one
-alike : (a b c d e f : Bool) → (b ≡ false → d ≡ true → e ≡ f) → (a && (b || (c || (d && e)))) ≡ (a && (b || (c || (d && f))))
-alike false b c d e f same = refl
-alike true true c d e f same = refl
-alike true false true d e f same = refl
-alike true false false true e f same = same refl refl
-alike true false false false e f same = refl
+-- tests of what is passed, which are the same where they are so of what is later and of this turn
+passed_alike : (a b c d e f : Bool) → (b ≡ false → d ≡ true → e ≡ f) → (a && (b || (c || (d && e)))) ≡ (a && (b || (c || (d && f))))
+passed_alike false b c d e f same = refl
+passed_alike true true c d e f same = refl
+passed_alike true false true d e f same = refl
+passed_alike true false false true e f same = same refl refl
+passed_alike true false false false e f same = refl
 
 module _ (places : List (Option Place)) (next previous : List ℕ) (t now n head : ℕ) (small : n < 256)
     (head_is : head ≡ length places + (t + 1 + n) % 256)
@@ -89,7 +89,7 @@ module _ (places : List (Option Place)) (next previous : List ℕ) (t now n head
     low = r.next_low head head_low.1;
     here = r.stays head head_low.1 ∙ head_own;
     which = λ k p is. f.which k p is ∙ (none (nat_le p.due now) (nat_le p.due t) (nat_lt (turn_of t p.due) n) (turn_of t p.due == n)
-        ∙ alike (nat_le p.due now) (nat_le p.due t) (nat_lt (turn_of t p.due) n) (turn_of t p.due == n) false
+        ∙ passed_alike (nat_le p.due now) (nat_le p.due t) (nat_lt (turn_of t p.due) n) (turn_of t p.due == n) false
         (is_behind head (slice_index next head) p (number (slice_index next head)))
         (λ later turn. sym (first k p is (late_by p.due later) (turn_by p.due turn))));
   }
@@ -215,7 +215,7 @@ module _ (places : List (Option Place)) (next previous : List ℕ) (t now n head
     other_which : (k : ℕ) (p : Place) → k ≢ x → place_in places k ≡ Some p
         → on_table k es ≡ (nat_le p.due now && is_passed t n (is_behind head y p (number y)) p)
     other_which k p other is =
-        l.which k p is ∙ alike (nat_le p.due now) (nat_le p.due t) (nat_lt (turn_of t p.due) n) (turn_of t p.due == n)
+        l.which k p is ∙ passed_alike (nat_le p.due now) (nat_le p.due t) (nat_lt (turn_of t p.due) n) (turn_of t p.due == n)
         (is_behind head x p (number x)) (is_behind head y p (number y))
         (λ later turn. sym (between k p other is (late_by p.due later) (turn_by p.due turn)))
 

@@ -1,18 +1,11 @@
 -- How much stands in a row.
-use Rattle.wq_delay.proofs.Common.{◌≡◌, ℕ, ◌+◌, ◌<◌, ◌≤◌, Bool, true, false, cond, ◌||◌, eqb, List, [], ◌∷◌, ◌++◌, map, length, is_ok, OnErr, nat_lt, ◌==◌}
-use Rattle.wq_delay.proofs.Common.{Some, None, Ok, Err, All, Option, Result, sym, refl, ap, ◌∙◌, subst, arith, length-append, eqb-true, nat_tests, get_or_past}
-use Rattle.wq_delay.proofs.Common.{length-map, All-head, All-tail, All-push, length-le_from_distinct_below, IsDistinct, Entry, on_table, items}
+use Rattle.wq_delay.proofs.Common.{◌≡◌, ℕ, ◌+◌, ◌<◌, ◌≤◌, Bool, true, false, ◌||◌, eqb, List, [], ◌∷◌, ◌++◌, map, length, nat_lt, ◌==◌}
+use Rattle.wq_delay.proofs.Common.{Some, None, All, Option, sym, refl, ap, ◌∙◌, subst, arith, length-append, eqb-true, nat_tests, get_or_past}
+use Rattle.wq_delay.proofs.Common.{length-map, All-head, All-tail, length-le_from_distinct_below, IsDistinct, Entry, on_table, items}
 use Rattle.wq_delay.proofs.Common.{Place, DueItem, place_in, AreOnTable, entry_at, entry_of, times, place_at, SaysPlace}
-use Rattle.wq_delay.proofs.Rounds.{at_or}
 use Rattle.wq_delay.proofs.Rows.{apart_items, any_item}
-use Rattle.wq_delay.proofs.Looking.{times_push, times_off}
+use Rattle.wq_delay.proofs.Looking.{more_on_table}
 use Rattle.wq_delay.proofs.Gathered.{no_times, times_first, no_more_times}
-
--- an entry that was pushed where there was room
-pub pushed : {A E : Type 0} (r : Result A E) (xs ys : List DueItem) (x : DueItem) (room size : ℕ)
-    → ys ≡ cond (is_ok r) (xs ++ x ∷ []) xs → OnErr r (room ≤ size) → size < room → ys ≡ xs ++ x ∷ []
-pushed (Ok a) xs ys x room size is full low = is
-pushed (Err e) xs ys x room size is full low = absurd (omega (arith, full))
 
 pub place_low : (places : List (Option Place)) (k : ℕ) (p : Place) → place_in places k ≡ Some p → k < length places
 place_low places k p is = by (nat_lt k (length places)) refl
@@ -46,23 +39,6 @@ few_rows places es on =
     let low = length-le_from_distinct_below (items es) (length places) (single_distinct es on.single)
     (λ k there. on_low places k es on.valid (sym (any_item k es) ∙ there)) in
     omega (arith, low, length-map es (λ e. e.item))
-
-pub more_on_table : (places : List (Option Place)) (es : List Entry) (k : ℕ) (p : Place) → AreOnTable places es → on_table k es ≡ false
-    → place_in places k ≡ Some p → AreOnTable places (es ++ entry_at p k ∷ [])
-more_on_table places es k p on off is = record {
-  valid = All-push (SaysPlace places) es (entry_at p k) on.valid is;
-  single = λ j. at_or (λ z. times z (es ++ entry_at p k ∷ []) ≤ 1) k j
-      (one (k == k) (times_push k es (entry_at p k)) (times_off k es off))
-      (λ ne. same (j == k) (grind (arith, nat_tests)) (times_push j es (entry_at p k)) (on.single j));
-}
-  where
-    one : {n m : ℕ} (b : Bool) → n ≡ m + cond b 1 0 → m ≡ 0 → n ≤ 1
-    one true is none = omega arith
-    one false is none = omega arith
-
-    same : {n m : ℕ} (b : Bool) → b ≡ false → n ≡ m + cond b 1 0 → m ≤ 1 → n ≤ 1
-    same true off is few = absurd (cc)
-    same false off is few = omega arith
 
 -- where an item of the table does not stand in it, a row has room for it
 pub row_has_room : (places : List (Option Place)) (es : List Entry) (k : ℕ) (p : Place) → AreOnTable places es → on_table k es ≡ false

@@ -2,7 +2,7 @@
 use Rattle.wq_delay.proofs.Common.{◌≡◌, ℕ, zero, suc, ◌+◌, ◌-◌, ◌%◌, ◌<◌, ◌≤◌, Bool, true, false, cond, ◌||◌, ◌≢◌, List, [], ◌∷◌, ◌++◌, length, get_or, set}
 use Rattle.wq_delay.proofs.Common.{nat_lt, ◌==◌, slice_index, Some, None, All, Option, sym, refl, ap, ◌∙◌, subst, arith, nat_tests, get_or_read, All-push}
 use Rattle.wq_delay.proofs.Common.{Entry, on_table, first_false, second_false, Place, place_in, head_by, number_by, entry_at, times, SaysPlace, waiting}
-use Rattle.wq_delay.proofs.Common.{IsGathering, StillWaits, IsClean, AreRings, same_Some}
+use Rattle.wq_delay.proofs.Common.{AreOnTable, IsGathering, StillWaits, IsClean, AreRings, same_Some}
 use Rattle.wq_delay.proofs.Rounds.{at_or}
 use Rattle.wq_delay.proofs.Wheel.{wheel_without, item_low}
 use mathlib.Core.Bool.{or-false}
@@ -34,6 +34,24 @@ times_off k [] off = refl
 times_off k (f ∷ fs) off =
     let is : (k == f.item) ≡ false = first_false (k == f.item) (on_table k fs) off in
     let rest = times_off k fs (second_false (k == f.item) (on_table k fs) off) in rw is (omega arith)
+
+-- an item of the table that does not stand in the row, put behind it
+pub more_on_table : (places : List (Option Place)) (es : List Entry) (k : ℕ) (p : Place) → AreOnTable places es → on_table k es ≡ false
+    → place_in places k ≡ Some p → AreOnTable places (es ++ entry_at p k ∷ [])
+more_on_table places es k p on off is = record {
+  valid = All-push (SaysPlace places) es (entry_at p k) on.valid is;
+  single = λ j. at_or (λ z. times z (es ++ entry_at p k ∷ []) ≤ 1) k j
+      (one (k == k) (times_push k es (entry_at p k)) (times_off k es off))
+      (λ ne. same (j == k) (grind (arith, nat_tests)) (times_push j es (entry_at p k)) (on.single j));
+}
+  where
+    one : {n m : ℕ} (b : Bool) → n ≡ m + cond b 1 0 → m ≡ 0 → n ≤ 1
+    one true is none = omega arith
+    one false is none = omega arith
+
+    same : {n m : ℕ} (b : Bool) → b ≡ false → n ≡ m + cond b 1 0 → m ≤ 1 → n ≤ 1
+    same true off is few = absurd (cc)
+    same false off is few = omega arith
 
 -- what waits stands on the table, and not in the row
 pub waits_there : (places : List (Option Place)) (row : List Entry) (k : ℕ) (p : Place) → waiting places row k ≡ Some p
@@ -237,25 +255,18 @@ module _ (places : List (Option Place)) (next previous : List ℕ) (start row : 
           (λ w. absurd (let n = w_x in cc))
           (λ other w. (other, sym (w_other k other) ∙ w)) is
 
+      stand : AreOnTable places row'
+      stand = subst (AreOnTable places) (sym row_is) (more_on_table places row x p
+          (record { valid = l.gathering.valid; single = l.gathering.single }) item_off at)
+
       moved : IsGathering places next' previous' row' now
       moved = record {
         wheel = wheel_without size next previous next' previous' (waiting places row) (waiting places row') x q l.gathering.wheel item_here.0
             q_is w_x w_other next_is previous_is;
-        valid = subst (All (SaysPlace places)) (sym row_is)
-            (All-push (SaysPlace places) row e l.gathering.valid at);
+        valid = stand.valid;
         due = subst (All (λ f. f.due ≤ now)) (sym row_is) (All-push (λ f. f.due ≤ now) row e l.gathering.due due);
-        single = λ k. let m = ap (times k) row_is ∙ times_push k row e in at_or (λ z. z ≡ k → times k row' ≤ 1) x k
-            (λ s. let n = times_off x row item_off in let c : times x row ≡ times k row = ap (λ (z : ℕ). times z row) s in one k (k == x) m (omega arith))
-            (λ other s. other_one k (k == x) (grind (arith, nat_tests)) m (l.gathering.single k)) refl;
+        single = stand.single;
       }
-        where
-          one : (k : ℕ) (b : Bool) → times k row' ≡ times k row + cond b 1 0 → times k row ≡ 0 → times k row' ≤ 1
-          one k true is none = omega arith
-          one k false is none = omega arith
-
-          other_one : (k : ℕ) (b : Bool) → b ≡ false → times k row' ≡ times k row + cond b 1 0 → times k row ≤ 1 → times k row' ≤ 1
-          other_one k true off is few = absurd (cc)
-          other_one k false off is few = omega arith
 
       takes : Looking places next' previous' start row' head now y
       takes = record {

@@ -51,8 +51,8 @@ module _ (places : List (Option Place)) where
     stand = All-push (λ x. stands places x ≡ true) grows.more e grows.stand there;
   }
 
-  pub grows_on : (old row new : List DueItem) → PutsBehind places old row → PutsBehind places row new → PutsBehind places old new
-  grows_on old row new first second = record {
+  pub grows_twice : (old row new : List DueItem) → PutsBehind places old row → PutsBehind places row new → PutsBehind places old new
+  grows_twice old row new first second = record {
     more = first.more ++ second.more;
     is = second.is ∙ (ap (λ (z : List DueItem). z ++ second.more) first.is ∙ append_assoc old first.more second.more);
     stand = All-append (λ x. stands places x ≡ true) first.more second.more first.stand second.stand;

@@ -168,7 +168,7 @@ fn look(places: &[Option<Place>], rings: &mut Rings, row: &mut Vec<DueItem>, hea
         if let Some(place) = places[item as usize] {
             if place.due <= now {
                 rings.take_out(item);
-                let _ = row.push(DueItem { place, item });
+                row.push_reserved(DueItem { place, item });
             }
         }
         item = after;
@@ -223,8 +223,8 @@ fn look_at(
     earliest[slot as usize] = left;
 }
 
-// Takes out of a row what has left the table, once all before `front` and nothing behind it has, or that is most of the row. The
-// place from which on something may stand there.
+// Takes out of a row what has left the table, where the row has no place from `front` on, or is longer than twice as many as there
+// are items. The place from which on something may stand there.
 fn tidy(places: &[Option<Place>], row: &mut Vec<DueItem>, front: usize) -> usize
     requires few { length places.now ≤ most_items }
     requires passed { filter (stands places.now) (take front row.old.items) ≡ [] }

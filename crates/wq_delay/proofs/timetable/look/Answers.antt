@@ -1,6 +1,6 @@
-use Rattle.wq_delay.proofs.Common.{[], vec_len, vec_capacity, arith, DueItem, remaining}
+use Rattle.wq_delay.proofs.Common.{[], vec_capacity, arith, DueItem}
 use Rattle.wq_delay.proofs.Looking.{item_off, looking_pass, looking_take, nearer_read, item_here, looking_init, looking_end}
-use Rattle.wq_delay.proofs.Fitting.{pushed, row_has_room}
+use Rattle.wq_delay.proofs.Fitting.{row_has_room}
 use Rattle.wq_delay.proofs.Tidied.{item_stands, standing_more, room_more, grows_none, grows_more}
 use Rattle.wq_delay.proofs.timetable.look.Goals as goal
 
@@ -37,21 +37,24 @@ pub take_out-requires-clause-previous : goal.take_out-requires-clause-previous
 take_out-requires-clause-previous c =
     let l = c.loop-item.invariant.0 in let w = l.gathering.wheel in omega (arith, w.rings.previous_low c.loop-item.item l.low, w.next_length)
 
+pub push_reserved-requires : goal.push_reserved-requires
+push_reserved-requires c =
+    let l = c.loop-item.invariant.0 in let enough = c.loop-item.invariant.1 in let h = c.requires.head in
+    let room = row_has_room c.args.places.now _ c.loop-item.item c.in-Some.place (record { valid = l.gathering.valid; single = l.gathering.single })
+    (item_off _ _ _ _ _ _ _ h.0 h.1 l c.loop-item-test.true) c.in-Some.is in
+    omega (arith, room, enough.enough, enough.few_gone, c.loop-item.row.ok.0)
+
 pub loop-item-preserved-then-place-now : goal.loop-item-preserved-then-place-now
 loop-item-preserved-then-place-now c =
     let l = c.loop-item.invariant.0 in let x = c.loop-item.item in let h = c.requires.head in let ne = c.loop-item-test.true in
-    let row = c.loop-item.row in let enough = c.loop-item.invariant.1 in let places = c.args.places.now in
+    let row = c.loop-item.row in let places = c.args.places.now in let new = c.push_reserved.new.self in let more = c.push_reserved.ensures.items in
     let e : DueItem = record { place = c.in-Some.place; item = x } in
-    let room = row_has_room places (remaining places row.items) x c.in-Some.place (record { valid = l.gathering.valid; single = l.gathering.single })
-    (item_off _ _ _ _ _ _ _ h.0 h.1 l ne) c.in-Some.is in
-    let more = pushed c.push.result row.items c.push.new.self.items e (vec_capacity row) (vec_len row)
-    c.push.ensures.items c.push.ensures.full (omega (arith, room, enough.enough, enough.few_gone, row.ok.0)) in
     let stands_there = item_stands places e c.in-Some.is in (
-      looking_take _ _ _ _ _ _ _ h.0 h.1 l ne c.in-Some.is c.if-place-now.true (standing_more places row.items c.push.new.self.items e more stands_there)
+      looking_take _ _ _ _ _ _ _ h.0 h.1 l ne c.in-Some.is c.if-place-now.true (standing_more places row.items new.items e more stands_there)
           c.take_out.ensures.next c.take_out.ensures.previous c.index-after.result.now c.index-after.ensures,
-      room_more places row.items c.push.new.self.items e (vec_capacity row) (vec_capacity c.push.new.self) enough more stands_there
-          (omega (arith, c.push.ensures.capacity)),
-      grows_more places c.args.row.now.items row.items c.push.new.self.items e c.loop-item.invariant.2 more stands_there,
+      room_more places row.items new.items e (vec_capacity row) (vec_capacity new) c.loop-item.invariant.1 more stands_there
+          (omega (arith, c.push_reserved.ensures.capacity)),
+      grows_more places c.args.row.now.items row.items new.items e c.loop-item.invariant.2 more stands_there,
     )
 
 pub loop-item-preserved-else-place-now : goal.loop-item-preserved-else-place-now

@@ -1,6 +1,6 @@
 use Rattle.wq_delay.proofs.Common.{◌≡◌, ◌-◌, min, refl, ◌∙◌, arith, nat_tests, remaining}
 use Rattle.wq_delay.proofs.Slots.{looking_on_init, looking_on_more, looking_on_end}
-use Rattle.wq_delay.proofs.Tidied.{grows_none, grows_on}
+use Rattle.wq_delay.proofs.Tidied.{grows_none, grows_twice}
 use Rattle.wq_delay.proofs.timetable.look_on.Goals as goal
 
 pub loop-after-init : goal.loop-after-init
@@ -31,7 +31,7 @@ loop-after-preserved c =
           c.look_at.ensures.clean,
       c.look_at.ensures.room,
       omega (arith, l.invariant.2),
-      grows_on c.args.places.now c.args.row.now.items l.row.items c.look_at.new.row.items l.invariant.3 c.look_at.ensures.grows,
+      grows_twice c.args.places.now c.args.row.now.items l.row.items c.look_at.new.row.items l.invariant.3 c.look_at.ensures.grows,
       c.look_at.ensures.earliest,
     )
 
