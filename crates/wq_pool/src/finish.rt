@@ -40,13 +40,16 @@ pub enum PoolFaultOf<K: Station> {
 impl<K: Station> fmt::Debug for PoolFaultOf<K> {
     fn fmt<O: fmt::Write>(&self, f: &mut fmt::Formatter<O>) -> fmt::Result {
         match self {
-            PoolFaultOf::Out { queue, .. } => f.debug_struct("Out").field("queue", queue).finish(),
+            PoolFaultOf::Out { queue, .. } => f
+                .debug_struct("Out")
+                .field("queue", queue)
+                .finish_non_exhaustive(),
             PoolFaultOf::Unfinished { queue, left, .. } => f
                 .debug_struct("Unfinished")
                 .field("queue", queue)
                 .field("left", left)
-                .finish(),
-            PoolFaultOf::Memory { .. } => f.write_str("Memory"),
+                .finish_non_exhaustive(),
+            PoolFaultOf::Memory { .. } => f.debug_struct("Memory").finish_non_exhaustive(),
         }
     }
 }
