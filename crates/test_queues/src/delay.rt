@@ -4,3 +4,4 @@ mod contended;
 mod draining;
 mod rows;
 mod wheel;
+mod words;

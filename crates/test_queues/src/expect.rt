@@ -18,6 +18,12 @@ pub(crate) fn expect_words<R: Abort, T: Display>(rt: &R, alloc: Global, of: &T, 
     expect_same(rt, text.as_str(), words);
 }
 
+/// Returns only where a report of the value has these words.
+pub(crate) fn expect_report<R: Abort, T: Debug>(rt: &R, alloc: Global, of: &T, words: &str) {
+    let text = format!(in alloc; "{of:?}").expect(rt, "memory");
+    expect_same(rt, text.as_str(), words);
+}
+
 /// Returns only where each of the values has its words.
 pub(crate) fn expect_each_words<R: Abort, T: Display>(rt: &R, alloc: Global, rows: &[(T, &str)]) {
     for (value, words) in rows {

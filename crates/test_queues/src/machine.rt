@@ -9,7 +9,7 @@ use wq_core::Step::{
 use wq_core::{Reply, Seat, Step, chain_and_batch, each_step_keeps_sound, first_push};
 use wq_machine::{Core, Keeper, ReplayError, StepError, replay, replay_on};
 use wq_meaning::RunError;
-use wq_text::{ParseError, Schedule, parse_steps};
+use wq_text::{Kind, LineError, ParseError, Schedule, parse_steps};
 use wq_words::{Event, Head, Layout, Why, check_history};
 
 const S0: Seat = Seat::Sender(0);
@@ -413,4 +413,6 @@ fn words_of_errors(rt: HostRuntime) {
     expect_words(&rt, alloc, &error, "step 2: not enabled");
     expect_words(&rt, alloc, &RunError::Memory, "memory");
     expect_words(&rt, alloc, &ParseError::Memory, "memory");
+    expect_words(&rt, alloc, &LineError::Memory, "memory");
+    expect_words(&rt, alloc, &LineError::Fault(Kind::Word), "Word");
 }

@@ -1,5 +1,5 @@
-//! Layouts, the codes of the head word, and which histories are legal.
-use crate::expect::expect_same;
+//! Layouts, the codes of the head word, and which histories are legal; the words of why one is not.
+use crate::expect::{expect_each_words, expect_same};
 use std::process::Abort;
 use wq_words::Event::{
     Back, Begin, Busy, Chain, ChainBusy, Close, Drain, End, Hold, Push, Rest, Resume, Take,
@@ -166,6 +166,39 @@ fn histories(rt: HostRuntime) {
     for &(history, fault) in HISTORIES {
         check(&rt, history, fault);
     }
+}
+
+const FAULTS: &[(HistoryFault, &str)] = &[
+    (HistoryFault::NoSeat, "no seat of the queue"),
+    (HistoryFault::NoItem, "no number of the queue"),
+    (HistoryFault::NotAllowed, "not allowed by the events before"),
+];
+
+#[test]
+fn words_of_faults(rt: HostRuntime) {
+    expect_each_words(&rt, rt.alloc(), FAULTS);
+}
+
+const ERRORS: &[(HistoryError, &str)] = &[
+    (
+        HistoryError {
+            place: 0,
+            kind: HistoryFault::NotAllowed,
+        },
+        "event 0: not allowed by the events before",
+    ),
+    (
+        HistoryError {
+            place: 7,
+            kind: HistoryFault::NoItem,
+        },
+        "event 7: no number of the queue",
+    ),
+];
+
+#[test]
+fn words_of_errors(rt: HostRuntime) {
+    expect_each_words(&rt, rt.alloc(), ERRORS);
 }
 
 /// Whether this event may stand right after a history.

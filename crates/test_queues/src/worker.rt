@@ -1,4 +1,4 @@
-//! Workers: destroys, books, and what threads see.
+//! Workers: destroys, books, words of errors, and what threads see.
 mod again;
 mod books;
 mod clearing;
@@ -11,3 +11,4 @@ mod serving;
 mod steps;
 mod stopping;
 pub(crate) mod team;
+mod words;
