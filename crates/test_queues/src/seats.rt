@@ -83,11 +83,26 @@ pub(crate) fn queue_settled(sender: &mut Sender, item: u32) -> Option<Answer> {
     }
 }
 
+/// Queues an item in 1,000 tries, and again where it was contended, at most 1,000 times. Whether it was queued.
+fn queue_tried(sender: &mut Sender, item: u32) -> bool {
+    for _ in 0..1000u32 {
+        if item >= sender.layout().items {
+            return false;
+        }
+        match sender.queue_tries(item, 1000) {
+            Answer::Queued { .. } => return true,
+            Answer::Contended => {}
+            Answer::Pending | Answer::Closed | Answer::Draining => return false,
+        }
+    }
+    false
+}
+
 /// Queues items in order, each once. How many were queued.
 pub(crate) fn queue_all(sender: &mut Sender, from: u32, to: u32) -> u32 {
     let mut queued = 0u32;
     for item in from..to {
-        if let Some(Answer::Queued { .. }) = queue_settled(sender, item) {
+        if queue_tried(sender, item) {
             queued = queued.saturating_add(1);
         }
     }
