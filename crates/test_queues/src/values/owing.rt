@@ -244,6 +244,30 @@ fn run_until_owing<R: Clock + Threads + Wait + Sync, W: ValueWork<Share> + Send>
     false
 }
 
+/// Seats whose worker has run beside both senders and owed an execution. Where `most` is 1, it owes it still.
+fn new_owing<'a, R: Abort + Clock + Threads + Wait + Sync>(
+    rt: &'a R,
+    alloc: Global,
+    shared: &Arc<u32>,
+    most: u32,
+) -> Disturbed<'a, R>
+    ensures first { result.first.known.queue ≡ result.worker.worker.queue }
+    ensures second { result.second.known.queue ≡ result.worker.worker.queue }
+{
+    let Disturbed {
+        mut worker,
+        mut first,
+        mut second,
+    } = new_disturbed(rt, alloc, shared);
+    let is_owing = run_until_owing(rt, &mut worker, &mut first, &mut second, most);
+    assert!(rt; is_owing);
+    Disturbed {
+        worker,
+        first,
+        second,
+    }
+}
+
 /// A pair whose queueing is contended is owed, and the next call goes on with it and its value, and with those behind it: each pair
 /// is run once, in order, with its own value, and none comes back.
 #[test]
@@ -253,9 +277,7 @@ fn contended_pair_goes_on(rt: HostRuntime) {
         mut worker,
         mut first,
         mut second,
-    } = new_disturbed(&rt, rt.alloc(), &shared);
-    let is_owing = run_until_owing(&rt, &mut worker, &mut first, &mut second, u32::MAX);
-    assert!(rt; is_owing);
+    } = new_owing(&rt, rt.alloc(), &shared, u32::MAX);
     worker.adjust(|work: &mut Restless<'_, HostRuntime>| work.is_over = true);
     let (work, mut book) = destroy(&rt, worker, 1000);
     let own = work.asked.wrapping_add(1).wrapping_mul(2);
@@ -283,11 +305,9 @@ fn owing_worker_is_not_ready(rt: HostRuntime) {
     let shared = Arc::new(rt.alloc(), 7u32).expect(&rt, "a value");
     let Disturbed {
         mut worker,
-        mut first,
+        first: _first,
         mut second,
-    } = new_disturbed(&rt, rt.alloc(), &shared);
-    let is_owing = run_until_owing(&rt, &mut worker, &mut first, &mut second, 1);
-    assert!(rt; is_owing);
+    } = new_owing(&rt, rt.alloc(), &shared, 1);
     queue_first(&mut second, 50);
     expect_same(&rt, worker.ready(), None);
     let ended = worker.run_one();
@@ -300,12 +320,10 @@ fn owing_worker_is_not_ready(rt: HostRuntime) {
 fn owed_pairs_are_dropped_with_the_worker(rt: HostRuntime) {
     let shared = Arc::new(rt.alloc(), 7u32).expect(&rt, "a value");
     let Disturbed {
-        mut worker,
-        mut first,
-        mut second,
-    } = new_disturbed(&rt, rt.alloc(), &shared);
-    let is_owing = run_until_owing(&rt, &mut worker, &mut first, &mut second, 1);
-    assert!(rt; is_owing);
+        worker,
+        first,
+        second,
+    } = new_owing(&rt, rt.alloc(), &shared, 1);
     assert!(rt; alive(&shared) > 2);
     drop(worker);
     drop(first);
