@@ -60,6 +60,43 @@ fn destroy_ends_a_drain(rt: HostRuntime) {
     expect_same(&rt, queue_item(&rt, &mut team.first, 2), Answer::Closed);
 }
 
+/// Three drains in vain, of five executions each.
+const ENDLESS: &[Step] = &[
+    Step::Queue(0, WAKES),
+    Step::Drain(5, Drained::TooLong { left: 1 }),
+    Step::IsDraining(true),
+    Step::Queue(2, Answer::Draining),
+    Step::Drain(5, Drained::TooLong { left: 1 }),
+    Step::IsDraining(true),
+    Step::Queue(2, Answer::Draining),
+    Step::Drain(5, Drained::TooLong { left: 1 }),
+    Step::IsDraining(true),
+    Step::Queue(2, Answer::Draining),
+];
+
+/// A destroy comes to its limit, and gives the worker back with the queue closed.
+fn destroy_in_vain<R: Abort>(rt: &R, worker: Worker<Fixed>, sender: &mut Sender) -> Worker<Fixed> {
+    let Err(unfinished) = worker.destroy(5) else {
+        panic!(rt; "a drain that ended")
+    };
+    expect_same(rt, unfinished.left, 1);
+    assert!(rt; unfinished.worker.is_closed());
+    expect_same(rt, queue_item(rt, sender, 2), Answer::Closed);
+    unfinished.worker
+}
+
+/// A drain that never ends, since what it runs asks for itself, answers at its limit each time. A destroy gives such a worker back
+/// again and again, with the queue closed.
+#[test]
+fn endless_drain_is_given_back(rt: HostRuntime) {
+    let mut work = Fixed::new();
+    work.next = Some(0);
+    let mut team = new_team(&rt, rt.alloc(), 4, work);
+    play(&rt, &mut team.worker, &mut team.first, ENDLESS);
+    let worker = destroy_in_vain(&rt, team.worker, &mut team.first);
+    destroy_in_vain(&rt, worker, &mut team.first);
+}
+
 /// Queues an item over and over, until it is queued. How often it was answered that the queue drains.
 fn queue_through<R: Abort + Wait>(rt: &R, sender: &mut Sender, item: u32) -> u32
     ensures { sender.new.queue ≡ sender.old.queue }
