@@ -1,5 +1,5 @@
 -- What several proofs of this crate cite of std, of specs and of the crates below, passed on from one place.
-pub use Rattle.std.proofs.Common.{Bool, List, [], ap, arith, false, if◌then◌else◌, length, length-append, not, refl, subst, sym, true, ℕ, ◌++◌, ◌<◌, ◌∙◌}
+pub use Rattle.std.proofs.Common.{Bool, List, [], ap, arith, false, length, length-append, not, refl, subst, sym, true, ℕ, ◌++◌, ◌<◌, ◌∙◌}
 pub use Rattle.std.proofs.Common.{◌∷◌, ◌≡◌}
 pub use Rattle.std.specs.Prelude.{All, IfSome, IsSome, IsTrue, Some, ◌+◌, ◌↔◌, ◌≢◌}
 pub use mathlib.Core.List.{IsPrefix}

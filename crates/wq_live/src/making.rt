@@ -30,9 +30,7 @@ fn seat_senders(
             chair,
             sent: Sent::new(layout, number),
         };
-        if senders.push(sender).is_err() {
-            return Err(BuildError::Memory);
-        }
+        senders.push_reserved(sender);
         number += 1;
     }
     Ok(senders)

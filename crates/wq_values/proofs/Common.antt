@@ -1,5 +1,5 @@
 -- What several proofs of this crate cite of std, of specs and of the crates below, passed on from one place.
-pub use Rattle.std.proofs.Common.{Bool, IsTrue, List, None, Option, Some, [], ap, append_assoc, arith, false, if◌then◌else◌, length, length-append, map}
+pub use Rattle.std.proofs.Common.{Bool, IsTrue, List, None, Option, Some, [], ap, append_assoc, arith, length, length-append, map}
 pub use Rattle.std.proofs.Common.{not, refl, slice_get, subst, sym, true, ℕ, ◌++◌, ◌+◌, ◌<◌, ◌∙◌, ◌∷◌, ◌≡◌, ◌≢◌}
 pub use Rattle.atomic_table.specs.Seated.{TableId}
 pub use mathlib.Core.List.{IsPrefix}

@@ -1,9 +1,7 @@
-use Rattle.wq_live.proofs.Common.{◌≡◌, Bool, true, false, List, [], ◌∷◌, ◌++◌, length, if◌then◌else◌, ap, sym, ◌∙◌, arith, length-append}
-use Rattle.wq_live.proofs.Common.{ValueStanding, Bare, new_senders, sending_in, sender_view}
-use Rattle.std.specs.Result.{is_ok}
+use Rattle.wq_live.proofs.Common.{◌≡◌, List, [], ◌∷◌, ◌++◌, length, ap, ◌∙◌, arith, length-append}
+use Rattle.wq_live.proofs.Common.{ValueStanding, Bare, new_senders}
 use Rattle.std.proofs.lemmas.Iterator.Adapters.{YieldsList-from_vec}
 use Rattle.std.proofs.lemmas.Iterator.Consumers.{YieldsList-turn, YieldsList-end}
-use Rattle.wq_words.proofs.Cases.{ok_told}
 use Rattle.wq_calls.proofs.Built.{chair_at, chair_low, view_new, new_senders-more, length-value_senders}
 use Rattle.wq_live.proofs.Made.{sender_of_none}
 use Rattle.wq_live.proofs.making.seat_senders.Goals as goal
@@ -35,20 +33,32 @@ overflow_add-number c = let h = c.into_iter-chair-iterator.ensures.into_iter_giv
       length-value_senders Bare c.requires.seats.0 c.args.layout c.args.layout.senders,
     )
 
+pub push_reserved-requires : goal.push_reserved-requires
+push_reserved-requires c = let h = c.into_iter-chair-iterator.ensures.into_iter_gives in let l = c.loop-chair in
+    let turn = YieldsList-turn
+    (YieldsList-from_vec {s = c.into_iter-chair-iterator.result} c.args.seats.items h.0 (h.1 ∙ c.args.seats.ok.0)) l.yielded l.chair-iterator
+    l.yielded_by c.next.result c.next.new.self c.in-Some.chair c.in-Some.is c.next.ensures.steps in
+    omega (
+      arith,
+      turn.0,
+      l.invariant.2,
+      l.invariant.3,
+      ap (λ (xs : List (ValueStanding Bare)). length xs) c.requires.seats.2,
+      length-value_senders Bare c.requires.seats.0 c.args.layout c.args.layout.senders,
+    )
+
 pub loop-chair-preserved : goal.loop-chair-preserved
 loop-chair-preserved c = let h = c.into_iter-chair-iterator.ensures.into_iter_gives in let l = c.loop-chair in
     let turn = YieldsList-turn
     (YieldsList-from_vec {s = c.into_iter-chair-iterator.result} c.args.seats.items h.0 (h.1 ∙ c.args.seats.ok.0)) l.yielded l.chair-iterator
-    l.yielded_by c.next.result c.next.new.self c.in-Some.chair c.in-Some.is c.next.ensures.steps in
-    let failed = c.is_err.ensures.value in let no : c.is_err.result ≡ false = c.if-is_err.false in
-    let ok : is_ok c.push.result ≡ true = ok_told c.push.result (sym failed ∙ no) in (
+    l.yielded_by c.next.result c.next.new.self c.in-Some.chair c.in-Some.is c.next.ensures.steps in (
       omega (arith, l.invariant.0, length-append l.yielded (c.in-Some.chair ∷ [])),
       λ q is. let view = view_new q c.args.layout l.number c.in-Some.chair c.new.result
           (chair_at q c.args.layout c.args.layout.senders c.args.seats.items (length l.yielded) l.number c.in-Some.chair is l.invariant.0 turn)
           c.new.ensures in
-          c.push.ensures.items ∙
-          (ap (λ (b : Bool). if b then l.senders.items ++ sender_view (sending_in 0 c.in-Some.chair c.new.result) ∷ [] else l.senders.items) ok ∙
-          ((λ i. l.invariant.1 q is i ++ view i ∷ []) ∙ new_senders-more q c.args.layout l.number)),
+          c.push_reserved.ensures.items ∙ ((λ i. l.invariant.1 q is i ++ view i ∷ []) ∙ new_senders-more q c.args.layout l.number),
+      omega (arith, c.push_reserved.ensures.len, l.invariant.2, length-append l.yielded (c.in-Some.chair ∷ [])),
+      omega (arith, c.push_reserved.ensures.capacity, l.invariant.3),
     )
 
 pub returns : goal.returns
