@@ -339,7 +339,7 @@ fn words_of_causes_and_errors(rt: HostRuntime) {
     expect_each_words(&rt, alloc, WORDS);
     let errors = [
         (NoSeat, "no seat of the queue"),
-        (NoItem, "no number of the queue"),
+        (NoItem, "no number of the queue, or chained and no item"),
         (NotAllowed(Cause::Next(7)), "not allowed: next 7"),
     ];
     expect_each_words(&rt, alloc, errors.as_slice());

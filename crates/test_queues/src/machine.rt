@@ -328,7 +328,10 @@ fn words_of_errors(rt: HostRuntime) {
     let alloc = rt.alloc();
     let errors = [
         (StepError::NoSeat, "no step of a seat of the queue"),
-        (StepError::NoItem, "no number of the queue"),
+        (
+            StepError::NoItem,
+            "no number of the queue, or chained and no item",
+        ),
         (StepError::NotEnabled, "not enabled"),
         (StepError::Memory, "memory"),
     ];

@@ -170,7 +170,10 @@ fn histories(rt: HostRuntime) {
 
 const FAULTS: &[(HistoryFault, &str)] = &[
     (HistoryFault::NoSeat, "no seat of the queue"),
-    (HistoryFault::NoItem, "no number of the queue"),
+    (
+        HistoryFault::NoItem,
+        "no number of the queue, or chained and no item",
+    ),
     (HistoryFault::NotAllowed, "not allowed by the events before"),
 ];
 
@@ -192,7 +195,7 @@ const ERRORS: &[(HistoryError, &str)] = &[
             place: 7,
             kind: HistoryFault::NoItem,
         },
-        "event 7: no number of the queue",
+        "event 7: no number of the queue, or chained and no item",
     ),
 ];
 

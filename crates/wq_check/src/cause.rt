@@ -53,7 +53,7 @@ pub enum EventError {
     #[error("no seat of the queue")]
     NoSeat,
     /// The number is none of the queue's, or is chained and no item.
-    #[error("no number of the queue")]
+    #[error("no number of the queue, or chained and no item")]
     NoItem,
     /// The events before do not allow it, for this cause.
     #[error("not allowed: {0}")]

@@ -8,7 +8,7 @@ pub enum StepError {
     #[error("no step of a seat of the queue")]
     NoSeat,
     /// A number is none of the queue's, or is chained and no item.
-    #[error("no number of the queue")]
+    #[error("no number of the queue, or chained and no item")]
     NoItem,
     /// The machine does not allow the step as it is.
     #[error("not enabled")]

@@ -19,7 +19,7 @@ pub enum HistoryFault {
     #[error("no seat of the queue")]
     NoSeat,
     /// The number is none of the queue's, or is chained and no item.
-    #[error("no number of the queue")]
+    #[error("no number of the queue, or chained and no item")]
     NoItem,
     /// The events before do not allow it.
     #[error("not allowed by the events before")]
