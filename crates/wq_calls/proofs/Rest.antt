@@ -8,7 +8,7 @@ use Rattle.std.proofs.lemmas.Bool.{eqb-false}
 use Rattle.wq_words.specs.declared.event.Event.TheVariants as event
 use Rattle.wq_words.specs.Rest.{wakes}
 use Rattle.wq_core.specs.declared.step.Step.TheVariants.{Rest}
-use Rattle.wq_core.specs.Words.{idle_word}
+use Rattle.wq_core.specs.Words.{resting_word}
 use Rattle.wq_core.specs.Machine.{head, with_head}
 use Rattle.wq_core.proofs.Taken.{head_first, head_wakes}
 use Rattle.wq_table.specs.declared.table.Stage.TheVariants.{Sends}
@@ -22,7 +22,7 @@ use Rattle.wq_calls.proofs.Linking.{has_row_after}
 use Rattle.wq_calls.proofs.Resting.{quiet_idle, open_stays, unclosed_stays}
 
 after_rest : (m : Machine) (c : ℕ) (st : Stage) → IsOwner st
-    → after m (seat_at c st) Rest ≡ (if head m == busy_word then happened (with_head m idle_word) event.Rest else m)
+    → after m (seat_at c st) Rest ≡ (if head m == busy_word then happened (with_head m resting_word) event.Rest else m)
 after_rest m c (Owns a b d) is = refl
 after_rest m c (Sends r) is = elim is [ ]
 
@@ -60,7 +60,7 @@ rest_tells word p q mine is opens makes =
     open_before shut = opens (shut_same makes.before.history p.seen (subst (λ (c : ℕ). own c p.seen ≡ own c makes.before.history) mine
         (sym makes.fits.mine)) shut)
 
-    marked : after makes.before (seat_at p.seat p.stage) Rest ≡ happened (with_head makes.before idle_word) event.Rest
+    marked : after makes.before (seat_at p.seat p.stage) Rest ≡ happened (with_head makes.before resting_word) event.Rest
         → head makes.before ≡ busy_word → Marks p q
     marked e busy = let m = makes.before in record {
       told = tells Rest word p q makes _ _ e refl refl (own_one p.seat event.Rest (sym mine));
@@ -79,7 +79,7 @@ rest_tells word p q mine is opens makes =
     }
 
     go : (b : Bool) → (head makes.before == busy_word) ≡ b
-        → after makes.before (seat_at p.seat p.stage) Rest ≡ (if b then happened (with_head makes.before idle_word) event.Rest else makes.before)
+        → after makes.before (seat_at p.seat p.stage) Rest ≡ (if b then happened (with_head makes.before resting_word) event.Rest else makes.before)
         → MatchBool b (Marks p q) (FindsOther p q)
     go true same e = marked e (eqb-true (head makes.before) busy_word same)
     go false other e = left e (eqb-false (head makes.before) busy_word other)

@@ -5,7 +5,7 @@ use Rattle.std.specs.Prelude.{reverse}
 use mathlib.Core.List.{reverse_aux}
 use Rattle.wq_words.specs.Keeper.{keeper}
 use Rattle.wq_words.proofs.Keepers.{queue_bit}
-use Rattle.wq_words.proofs.Times.{few}
+use Rattle.wq_words.proofs.Times.{length-distinct_below}
 use Rattle.wq_words.proofs.Accepted.{accepted_below, queue_once}
 use Rattle.wq_core.specs.Words.{word_at}
 use Rattle.wq_core.specs.Sound.{IsChain}
@@ -29,7 +29,7 @@ pub waits_few : (m : Machine) (o : IsSound m) → length m.batch + (length o.cha
 waits_few m o =
     let h = m.history in let a = o.chains in let mid = mid_of m o in
     let keeps : (q : ℕ) → times q (accepted h) ≡ times q (begun h) + queue_bit (keeper h q) = λ q. (kept m.layout h o.legal 0 q).2 in
-    let less = few mid (number_count m.layout) (λ q. omega (
+    let less = length-distinct_below mid (number_count m.layout) (λ q. omega (
       arith,
       split_of m o q,
       keeps q,

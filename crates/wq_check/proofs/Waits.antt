@@ -2,7 +2,7 @@
 use Rattle.wq_check.proofs.Common.{◌≡◌, ℕ, ◌+◌, ◌<◌, ◌≤◌, List, length, take, drop, refl, sym, ap, ◌∙◌, arith, Layout, Event, number_count, accepted}
 use Rattle.wq_check.proofs.Common.{begun, IsLegal, keeper, in_order, queue_bit, kept, times, times-append, unbegun}
 use Rattle.std.proofs.lemmas.List.{drop_at, take-append-drop}
-use Rattle.wq_words.proofs.Times.{few}
+use Rattle.wq_words.proofs.Times.{length-distinct_below}
 use Rattle.wq_words.proofs.Accepted.{accepted_below, queue_once}
 
 -- how often a number waits, by its keeper
@@ -16,7 +16,8 @@ waits_bit layout h legal k =
 
 -- no more wait than there are numbers
 pub few_unbegun : (layout : Layout) (h : List Event) → IsLegal layout h → length (unbegun h) ≤ number_count layout
-few_unbegun layout h legal = few (unbegun h) (number_count layout) (λ q. omega (arith, waits_bit layout h legal q, queue_once (keeper h q))) below
+few_unbegun layout h legal =
+    length-distinct_below (unbegun h) (number_count layout) (λ q. omega (arith, waits_bit layout h legal q, queue_once (keeper h q))) below
   where
     below : (q : ℕ) → 1 ≤ times q (unbegun h) → q < number_count layout
     below q some = accepted_below layout h legal q (omega (arith, some, more))

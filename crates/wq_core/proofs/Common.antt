@@ -39,7 +39,7 @@ pub use Rattle.wq_core.specs.Machine.{after, with_link, with_private, StandsIn, 
 pub use Rattle.wq_core.specs.Made.{IsMade}
 pub use Rattle.wq_core.specs.Sound.{head_of_list, IsChain, AreChained, head_of, marked, head_word_of, IsSound}
 pub use Rattle.wq_core.specs.Words.{link_place, number_at, word_at, item_place, done_place, head_place, closed_word, link_word, link_to, word_count}
-pub use Rattle.wq_core.specs.Words.{draining_word, TakesPushes, item_of, idle_word, said_at, head_at}
+pub use Rattle.wq_core.specs.Words.{draining_word, TakesPushes, item_of, resting_word, said_at, head_at}
 pub use Rattle.wq_core.specs.declared.step.Private.{Private}
 pub use Rattle.wq_core.specs.declared.step.Step.{Step}
 pub use Rattle.wq_core.specs.declared.step.Step.TheVariants.{Look, Link, Check, Walk, Turn}

@@ -23,8 +23,8 @@ no_drain Drain is = is
 no_drain _ is = refl
 
 -- the queue is closed, or drains, or takes pushes
-pub phase : (h : List Event) → IsClosed h ⊎ (IsDraining h ⊎ (¬ IsShut h))
-phase h = go (closed h) (shut h) refl refl
+pub closed_draining_or_open : (h : List Event) → IsClosed h ⊎ (IsDraining h ⊎ (¬ IsShut h))
+closed_draining_or_open h = go (closed h) (shut h) refl refl
   where
     go : (q r : Bool) → closed h ≡ q → shut h ≡ r → IsClosed h ⊎ (IsDraining h ⊎ (¬ IsShut h))
     go true r e f = inl (IsClosed_from_closed h e)
@@ -124,21 +124,21 @@ module _ (m : Machine) (o : IsSound m) where
   head_draining is = o.head_is ∙ head_of_draining m.history is
 
   pub closed_from_head : head m ≡ closed_word → IsClosed m.history
-  closed_from_head is = elim (phase m.history) [
+  closed_from_head is = elim (closed_draining_or_open m.history) [
     | inl closes ↦ closes
     | inr (inl drains) ↦ absurd (omega (arith, is, head_draining drains))
     | inr (inr opens) ↦ absurd ((head_takes opens).0 is)
   ]
 
   pub draining_from_head : head m ≡ draining_word → IsDraining m.history
-  draining_from_head is = elim (phase m.history) [
+  draining_from_head is = elim (closed_draining_or_open m.history) [
     | inl closes ↦ absurd (omega (arith, is, head_closed closes))
     | inr (inl drains) ↦ drains
     | inr (inr opens) ↦ absurd ((head_takes opens).1 is)
   ]
 
   pub open_from_link : TakesPushes (link_word (head m)) → ¬ IsShut m.history
-  open_from_link takes shuts = elim (phase m.history) [
+  open_from_link takes shuts = elim (closed_draining_or_open m.history) [
     | inl closes ↦ takes.0 (ap link_word (head_closed closes))
     | inr (inl drains) ↦ takes.1 (ap link_word (head_draining drains))
     | inr (inr opens) ↦ opens shuts
@@ -163,7 +163,7 @@ module _ (m : Machine) (o : IsSound m) where
 
   -- until the close, what stands at the head is the first of what is listed
   pub cursor_swapped : ¬ IsClosed m.history → item_of (head_at (head m)) ≡ number_at (head_word (head_of_list (listed m.history)))
-  cursor_swapped unclosed = elim (phase m.history) [
+  cursor_swapped unclosed = elim (closed_draining_or_open m.history) [
     | inl closes ↦ absurd (unclosed closes)
     | inr (inl drains) ↦
         let none : listed m.history ≡ [] = listed-shut m.layout m.history o.legal drains.0 in

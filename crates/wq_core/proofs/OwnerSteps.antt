@@ -6,7 +6,7 @@ use Rattle.wq_core.proofs.Common.{arith, length-set, get_or-set_same, length_pus
 use Rattle.wq_core.proofs.Common.{ChainBusy, Rest, number_count, busy_word, wakes, accepted, accepted_by, begun, begun_by, ended, ended_by, is_close, IsClosed}
 use Rattle.wq_core.proofs.Common.{IsRunning, running, listed_after, listed, Keeper, Home, Sender, Listed, Owner, taken_over, keeper_after, keeper, growing}
 use Rattle.wq_core.proofs.Common.{count_by_push, filter_map_push_some, slice_get_append, in_order, legal_push, closed_from_open, closed_push_no, pending_bit}
-use Rattle.wq_core.proofs.Common.{item_place, done_place, head_place, closed_word, idle_word, number_at, Machine, head, link, item_word, done_word, with_head}
+use Rattle.wq_core.proofs.Common.{item_place, done_place, head_place, closed_word, resting_word, number_at, Machine, head, link, item_word, done_word, with_head}
 use Rattle.wq_core.proofs.Common.{with_item, with_done, happened, prefix_length, wakes_push_work, wakes_push_rest, head_word_of, AreChained, IsSound}
 use Rattle.std.proofs.Math.Nat.{add-mod-mod}
 use Rattle.wq_core.proofs.Chains.{chain_zero, chained_take, chained_begin, chained_walk_on, chained_walk_end, chained_chain, cursor_number}
@@ -219,7 +219,7 @@ module _ (m : Machine) (o : IsSound m) where
       sound_swap busy_word Resume (tt, tt, (drains, all_ended still empty idle none)) drains.1 still now list (λ j x. refl) (λ j s. refl) refl refl refl
 
   pub sound_rest : ¬ IsShut m.history → m.cursor ≡ None → m.batch ≡ [] → ¬ IsRunning m.history → head m ≡ busy_word
-      → IsSound (happened (with_head m idle_word) Rest)
+      → IsSound (happened (with_head m resting_word) Rest)
   sound_rest opens still empty idle busy =
       let b = by_keepers m o in
       let n : ℕ = number_count m.layout in
@@ -227,17 +227,17 @@ module _ (m : Machine) (o : IsSound m) where
       let list : listed (m.history ++ Rest ∷ []) ≡ [] = fold_push listed_after [] m.history Rest ∙ none in
       let opened : shut (m.history ++ Rest ∷ []) ≡ false = shut_quiet m.history Rest refl refl refl ∙ shut_from_open m.history opens in
       let rested : wakes (m.history ++ Rest ∷ []) ≡ true = wakes_push_rest m.history in
-      let now : head_word_of (m.history ++ Rest ∷ []) ≡ idle_word =
+      let now : head_word_of (m.history ++ Rest ∷ []) ≡ resting_word =
       head_word_unshut (m.history ++ Rest ∷ []) opened ∙ rw (list, rested) refl in
-      from_keepers (happened (with_head m idle_word) Rest) (record {
-        has_words = length-set m.words head_place idle_word ∙ o.has_words;
+      from_keepers (happened (with_head m resting_word) Rest) (record {
+        has_words = length-set m.words head_place resting_word ∙ o.has_words;
         has_seats = o.has_seats;
         legal = legal_push m.layout m.history Rest o.legal (tt, tt, (opens, all_ended still empty idle none));
-        head_is = get_or-set_same m.words head_place idle_word 0 (omega (arith, o.has_words)) ∙ sym now;
+        head_is = get_or-set_same m.words head_place resting_word 0 (omega (arith, o.has_words)) ∙ sym now;
         rests = λ on. list;
-        items_are = follow_quiet pending_bit 0 (item_place n) n _ m.history Rest (λ j x. refl) (items_of-head n m.words idle_word m.history b.items_are);
-        done_is = done_of-head n m.words idle_word ∙ o.done_is ∙ ap (λ z. z % 2 ^ 64) (sym (ended_quiet m.history Rest refl));
-        chains = simp growing (chains_of-head n m.words idle_word _ _ _ _ _ _ o.chains);
-        linked = linked_quiet n _ m.seats m.history Rest (λ j s. refl) (linked_of-head n m.words idle_word m.seats m.history b.linked);
+        items_are = follow_quiet pending_bit 0 (item_place n) n _ m.history Rest (λ j x. refl) (items_of-head n m.words resting_word m.history b.items_are);
+        done_is = done_of-head n m.words resting_word ∙ o.done_is ∙ ap (λ z. z % 2 ^ 64) (sym (ended_quiet m.history Rest refl));
+        chains = simp growing (chains_of-head n m.words resting_word _ _ _ _ _ _ o.chains);
+        linked = linked_quiet n _ m.seats m.history Rest (λ j s. refl) (linked_of-head n m.words resting_word m.seats m.history b.linked);
         seen = seen_after m.seats m.history Rest o.seen;
       })

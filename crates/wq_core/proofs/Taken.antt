@@ -3,7 +3,7 @@ use Rattle.wq_core.proofs.Common.{IsShut, TakesPushes, subst, draining_word, ◌
 use Rattle.wq_core.proofs.Common.{take, drop, reverse, get_or, set, Option, None, Some, ◌%◌, ◌^◌, refl, sym, ap, ◌∙◌, arith, length-append, ne_eqb, eqb-true}
 use Rattle.wq_core.proofs.Common.{eqb-false, append-nil, length-reverse, take_at, drop_at, get_or-set_other, get_or-set_same, number_count, head_word}
 use Rattle.wq_core.proofs.Common.{busy_word, wakes, accepted, begun, taken, first, running, listed, length-accepted, fresh-open, keeper, Step, Look, Link}
-use Rattle.wq_core.proofs.Common.{Check, Walk, Turn, head_place, link_place, item_place, done_place, closed_word, idle_word, link_word, word_at, Machine, head}
+use Rattle.wq_core.proofs.Common.{Check, Walk, Turn, head_place, link_place, item_place, done_place, closed_word, resting_word, link_word, word_at, Machine, head}
 use Rattle.wq_core.proofs.Common.{link, item_word, done_word, private, seen_word, after_walk, after_begin, after_end, after, reply_to, StandsIn, IsMade}
 use Rattle.wq_core.proofs.Common.{head_of_list, marked, IsChain, IsSound}
 use Rattle.wq_core.specs.declared.step.Seat.TheVariants.{Sender, Owner}
@@ -47,11 +47,11 @@ head_first m o opens = ap (λ w. w == 0) (head_open m o opens) ∙ go (listed m.
     go [] = refl
     go (k ∷ ks) = ne_eqb (k + 1) 0 (λ e. omega (arith, e)) ∙ sym (ne_eqb (length (k ∷ ks)) 0 (λ e. omega (arith, e)))
 
--- and it is the idle one where the queue rests
-pub head_wakes : (m : Machine) → IsSound m → ¬ IsShut m.history → (head m == idle_word) ≡ wakes m.history
-head_wakes m o opens = ap (λ w. w == idle_word) (head_marked m o opens) ∙ go (wakes m.history) refl (listed m.history) refl
+-- and it is the resting one where the queue rests
+pub head_wakes : (m : Machine) → IsSound m → ¬ IsShut m.history → (head m == resting_word) ≡ wakes m.history
+head_wakes m o opens = ap (λ w. w == resting_word) (head_marked m o opens) ∙ go (wakes m.history) refl (listed m.history) refl
   where
-    go : (q : Bool) → wakes m.history ≡ q → (ks : List ℕ) → listed m.history ≡ ks → (marked q (head_of_list ks) == idle_word) ≡ q
+    go : (q : Bool) → wakes m.history ≡ q → (ks : List ℕ) → listed m.history ≡ ks → (marked q (head_of_list ks) == resting_word) ≡ q
     go true on [] same = refl
     go false on [] same = refl
     go true on (k ∷ ks) same = absurd (cc (same, o.rests on))
@@ -64,11 +64,12 @@ module _ (m : Machine) (s k : ℕ) (p q : Bool) (o : IsSound m) (made : IsMade m
       let l = o.linked s k made.1 in
       open_from_link m o (subst TakesPushes (sym (ap link_word won ∙ link_seen (private m s).seen _ l.2)) l.3)
 
-  said : (head m ≡ seen_word m s) × ((link_word (seen_word m s) == 0) ≡ p) × ((seen_word m s == idle_word) ≡ q)
+  said : (head m ≡ seen_word m s) × ((link_word (seen_word m s) == 0) ≡ p) × ((seen_word m s == resting_word) ≡ q)
   said = go (head m == seen_word m s) refl is
     where
-      go : (b : Bool) → (head m == seen_word m s) ≡ b → (if b then Pushed (link_word (seen_word m s) == 0) (seen_word m s == idle_word) else Lost) ≡ Pushed p q
-          → (head m ≡ seen_word m s) × ((link_word (seen_word m s) == 0) ≡ p) × ((seen_word m s == idle_word) ≡ q)
+      go : (b : Bool) → (head m == seen_word m s) ≡ b
+          → (if b then Pushed (link_word (seen_word m s) == 0) (seen_word m s == resting_word) else Lost) ≡ Pushed p q
+          → (head m ≡ seen_word m s) × ((link_word (seen_word m s) == 0) ≡ p) × ((seen_word m s == resting_word) ≡ q)
       go true e is' = (eqb-true (head m) (seen_word m s) e, cc is', cc is')
       go false e is' = absurd cc
 
@@ -76,7 +77,7 @@ module _ (m : Machine) (s k : ℕ) (p q : Bool) (o : IsSound m) (made : IsMade m
   pushed_first = sym said.1 ∙ ap (λ w. link_word w == 0) (sym said.0) ∙ head_first m o (opens said.0)
 
   pub pushed_wakes : q ≡ wakes m.history
-  pushed_wakes = sym said.2 ∙ ap (λ w. w == idle_word) (sym said.0) ∙ head_wakes m o (opens said.0)
+  pushed_wakes = sym said.2 ∙ ap (λ w. w == resting_word) (sym said.0) ∙ head_wakes m o (opens said.0)
 
 -- the link of k after a step of the owner, where it was this word before
 abbrev pub link_after : Step → ℕ → ℕ → ℕ
@@ -132,5 +133,5 @@ module _ (m : Machine) (o : IsSound m) (k : ℕ) (stands : StandsIn m.walked m.b
   owner_links End = end_links (running m.history)
   owner_links (Chain j) = either (item_word m j == 0) (λ x. link x k ≡ link m k) _ _ (λ e. item_written j 1) (λ e. refl)
   owner_links (Turn j next) = turn_links j (word_at next) (j == k) refl
-  owner_links Rest = either (head m == busy_word) (λ x. link x k ≡ link m k) _ _ (λ e. head_written idle_word) (λ e. refl)
+  owner_links Rest = either (head m == busy_word) (λ x. link x k ≡ link m k) _ _ (λ e. head_written resting_word) (λ e. refl)
   owner_links _ = refl

@@ -17,7 +17,7 @@ use Rattle.wq_core.specs.declared.step.Step.{Step}
 use Rattle.wq_core.specs.declared.step.Step.TheVariants.{Hold, Look, Link, Push, Back, Check, Take, Close, Drain, Resume, Walk, Begin, End, Chain, Turn, Rest}
 use Rattle.wq_core.specs.declared.step.Reply.{Reply}
 use Rattle.wq_core.specs.declared.step.Reply.TheVariants as reply
-use Rattle.wq_core.specs.Words.{head_place, link_place, item_place, done_place, word_count, closed_word, draining_word, idle_word, TakesPushes}
+use Rattle.wq_core.specs.Words.{head_place, link_place, item_place, done_place, word_count, closed_word, draining_word, resting_word, TakesPushes}
 use Rattle.wq_core.specs.Words.{link_word, number_at, word_at, head_at, item_of}
 
 -- Which numbers a sender holds, whether the queue is closed or drains, and which number runs are read off the history.
@@ -182,7 +182,7 @@ after m Owner (Chain k) =
     then happened (record (with_item m k 1) { batch = m.batch ++ k ∷ [] }) (event.Chain k)
     else happened m (event.ChainBusy k)
 after m Owner (Turn k next) = with_link m k (word_at next)
-after m Owner Rest = if head m == busy_word then happened (with_head m idle_word) event.Rest else m
+after m Owner Rest = if head m == busy_word then happened (with_head m resting_word) event.Rest else m
 after m seat step = m
 
 abbrev pub first_of : List ℕ → ℕ
@@ -198,7 +198,7 @@ abbrev pub reply_to : Machine → Seat → Step → Reply
 reply_to m (Sender s) (Hold k) = if item_word m k == 0 then reply.Held else reply.Busy
 reply_to m (Sender s) Look = reply.Looked (head_at (head m))
 reply_to m (Sender s) (Link k) = reply.Linked
-reply_to m (Sender s) (Push k) = if head m == seen_word m s then reply.Pushed (link_word (seen_word m s) == 0) (seen_word m s == idle_word) else reply.Lost
+reply_to m (Sender s) (Push k) = if head m == seen_word m s then reply.Pushed (link_word (seen_word m s) == 0) (seen_word m s == resting_word) else reply.Lost
 reply_to m (Sender s) (Back k why) = reply.GivenBack
 reply_to m (Sender s) (Check k) = if item_word m k == 0 then reply.Idle else reply.Pending
 reply_to m Owner Take = reply.Took (head_at (head m))

@@ -11,7 +11,7 @@ use Rattle.wq_words.specs.History.{accepted, begun, ended, pending, closed, shut
 use Rattle.wq_words.specs.Legal.{IsLegal, IsCause}
 use Rattle.wq_words.specs.Listed.{listed}
 use Rattle.wq_words.specs.Rest.{wakes}
-use Rattle.wq_core.specs.Words.{link_place, word_count, idle_word, TakesPushes, link_to, word_at}
+use Rattle.wq_core.specs.Words.{link_place, word_count, resting_word, TakesPushes, link_to, word_at}
 use Rattle.wq_core.specs.Machine.{Machine, head, link, item_word, done_word, private, HasSeenCause}
 
 -- the head of a list of numbers, newest first
@@ -25,7 +25,7 @@ head_of h = if closed h then Closed else (if shut h then Draining else head_of_l
 
 -- the word of a head: that of an empty list says whether it rests
 abbrev pub marked : Bool → Head → ℕ
-marked rests Empty = if rests then idle_word else busy_word
+marked rests Empty = if rests then resting_word else busy_word
 marked rests x = head_word x
 
 -- the head word that the history leaves

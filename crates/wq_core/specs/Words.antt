@@ -34,8 +34,8 @@ abbrev pub TakesPushes : ℕ → Type 0
 TakesPushes word = (word ≢ closed_word) × (word ≢ draining_word)
 
 -- the head word of an empty list that rests
-abbrev pub idle_word : ℕ
-idle_word = head_word Empty
+abbrev pub resting_word : ℕ
+resting_word = head_word Empty
 
 -- the word that links to what stands at a head: that of an empty list is the end, whether it rests or not
 abbrev pub link_word : ℕ → ℕ

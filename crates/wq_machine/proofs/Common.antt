@@ -19,7 +19,7 @@ pub use Rattle.wq_core.proofs.Common.{begun_by, Holds, IsRunning, running, IsLeg
 pub use Rattle.wq_core.proofs.Common.{slice_get-get_or, slice_get_last, growing, in_order, prefix_length, nothing_seen, HasSeenCause, after_swap, Machine}
 pub use Rattle.wq_core.proofs.Common.{head, item_word, done_word, private, happened, link, with_head, with_item, with_done, unlinked, opening, seen_word}
 pub use Rattle.wq_core.proofs.Common.{after, with_link, with_private, StandsIn, IsMade, IsChain, IsSound, link_place}
-pub use Rattle.wq_core.proofs.Common.{number_at, word_at, item_place, done_place, head_place, link_word, link_to, word_count, TakesPushes, idle_word}
+pub use Rattle.wq_core.proofs.Common.{number_at, word_at, item_place, done_place, head_place, link_word, link_to, word_count, TakesPushes, resting_word}
 pub use Rattle.wq_machine.specs.Refusal.{IsRefused}
 pub use Rattle.wq_machine.specs.Schedule.{Leads, Leaves, StopsAt}
 pub use Rattle.wq_machine.specs.Stored.{LinksFit, LooksFit, holder, IsStored}

@@ -4,7 +4,7 @@ use Rattle.wq_machine.proofs.Common.{◌++◌, length, replicate, take, reverse,
 use Rattle.wq_machine.proofs.Common.{length-append, ◌↔◌, length-replicate, reverse-append, take_all, take_more, slice_get_past, Layout, Event, Hold, Busy, Push}
 use Rattle.wq_machine.proofs.Common.{Back, Take, Close, Begin, End, Chain, ChainBusy, Rest, Why, number_count, busy_word, begun, ended, running, Holds, IsRunning}
 use Rattle.wq_machine.proofs.Common.{listed, Keeper, Home, Sender, Listed, Owner, taken_over, keeper, keeper_after, growing, slice_get_last, in_order}
-use Rattle.wq_machine.proofs.Common.{prefix_length, Private, link_place, word_count, idle_word, link_word, link_to, number_at, Machine, opening, nothing_seen}
+use Rattle.wq_machine.proofs.Common.{prefix_length, Private, link_place, word_count, resting_word, link_word, link_to, number_at, Machine, opening, nothing_seen}
 use Rattle.wq_machine.proofs.Common.{head, link, item_word, done_word, private, seen_word, with_head, with_link, with_item, with_done, with_private, happened}
 use Rattle.wq_machine.proofs.Common.{unlinked, StandsIn, IsChain, IsSound, holder, LinksFit, LooksFit, IsStored}
 use Rattle.wq_words.proofs.Keepers.{gives_hold, gives_push, gives_back, gives_begin, gives_chain}
@@ -135,10 +135,10 @@ module _ (m : Machine) (holders : List (Option ℕ)) (runs : Option ℕ) (o : Is
   stored_swap word _ may = absurd may
 
   pub stored_rest : ¬ IsShut m.history → m.cursor ≡ None → m.batch ≡ [] → ¬ IsRunning m.history → head m ≡ busy_word
-      → IsStored (happened (with_head m idle_word) Rest) holders runs
+      → IsStored (happened (with_head m resting_word) Rest) holders runs
   stored_rest opens still empty idle busy =
       stored_quiet _ _ _ _ _ Rest (sound_rest m o.sound opens still empty idle busy) (λ j x. refl) (simp growing o.running_is)
-      (fit_head _ m.words idle_word o.links_fit) o.looks_fit
+      (fit_head _ m.words resting_word o.links_fit) o.looks_fit
 
   pub stored_walk_end : (k : ℕ) → m.cursor ≡ Some k → link m k ≡ 0
       → IsStored (record m { cursor = None; walked = []; batch = m.batch ++ k ∷ m.walked }) holders runs

@@ -8,7 +8,7 @@ use Rattle.std.proofs.lemmas.List.{length-drop, take-append-drop, get_or-append-
 use Rattle.std.proofs.Math.Seq.{take-append_seam}
 use Rattle.wq_recording.proofs.LastLine.{last_long}
 use Rattle.wq_recording.proofs.Reading.{long_is, too_long}
-use Rattle.wq_words.proofs.Cases.{same_err, clash}
+use Rattle.wq_words.proofs.Cases.{same_err, ok_is_no_err}
 
 -- a part with others behind it, and another text of the same lines as far as this one
 record IsAlso {A : Type 0} (gives : Lines A) (other : List ℕ) (n : ℕ) (s : Stage) (asked : List A) (line : List ℕ) : Type 0 where
@@ -126,7 +126,7 @@ module _ {A E : Type 0} (inner : Lines A) (rules : Rules A E) (text other : List
 
   never_stops : (v : Verdict E) (stop : Stop) → StopsWith (short_line inner) rules text v.layout v.events stop → IsTooLongAt stop.line text → ⊥
   never_stops v stop x long =
-      clash (sym x.given ∙ long_is inner x.reached x.line (long_line stop.line x.reached x.asked x.line x.behind x.at long))
+      ok_is_no_err (sym x.given ∙ long_is inner x.reached x.line (long_line stop.line x.reached x.asked x.line x.behind x.at long))
 
   size_is : (s : Stage) (line : List ℕ) (behind : List (List ℕ)) (k : Kind) → 4096 < length line
       → HasFaultAt (short_line inner) rules text s line behind k → k ≡ kind.Size

@@ -79,7 +79,7 @@ pub history_fits : AreFit (recording_line history_grammar) history_rules
 history_fits = record {
   stays = λ l line next one e. stays history_grammar l next one line (ok_behind_need kind.Size _ _ _ e);
   asks = λ s next a line e. asks_line history_grammar s next a line (ok_behind_need kind.Size _ _ _ e);
-  clash = λ layout h e more c legal cause. cause.0.2 (legal_next layout h e more legal).2;
+  uncaused = λ layout h e more c legal cause. cause.0.2 (legal_next layout h e more legal).2;
   one_cause = λ layout h e c d x y. one_event_cause h e c d x.1 y.1;
 }
 
@@ -87,6 +87,6 @@ pub trace_fits : AreFit (recording_line trace_grammar) trace_rules
 trace_fits = record {
   stays = λ l line next one e. stays trace_grammar l next one line (ok_behind_need kind.Size _ _ _ e);
   asks = λ s next a line e. asks_line trace_grammar s next a line (ok_behind_need kind.Size _ _ _ e);
-  clash = λ layout t m more c legal cause. cause.1 (shown_next layout t m more legal);
+  uncaused = λ layout t m more c legal cause. cause.1 (shown_next layout t m more legal);
   one_cause = λ layout t m c d x y. one_mark_cause t m c d x.2 y.2;
 }

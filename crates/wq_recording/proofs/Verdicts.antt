@@ -9,7 +9,7 @@ use Rattle.wq_text.specs.declared.header.Stage.TheVariants as stage
 use Rattle.wq_text.proofs.Outcomes.{whole_or_not, same_error}
 use Rattle.std.proofs.lemmas.Grind.{flat_map-append}
 use Rattle.wq_words.proofs.Lists.{none_cons}
-use Rattle.wq_words.proofs.Cases.{same_ok, same_err, clash}
+use Rattle.wq_words.proofs.Cases.{same_ok, same_err, ok_is_no_err}
 
 same_stop : (x y : Stop) → x.line ≡ y.line → x.cause ≡ y.cause → x ≡ y
 same_stop x y p q = λ i. record { line = p i; cause = q i }
@@ -21,7 +21,7 @@ same_verdict v w p q r = λ i. record { layout = p i; events = q i; stop = r i }
 pub record AreFit {A E : Type 0} (gives : Lines A) (rules : Rules A E) : Type 0 where
   pub stays : (l : Layout) (line : List ℕ) (next : Stage) (one : Option A) → gives (stage.Commands l) line ≡ Ok (next, one) → next ≡ stage.Commands l
   pub asks : (s next : Stage) (a : A) (line : List ℕ) → gives s line ≡ Ok (next, Some a) → (l : Layout) × (next ≡ stage.Commands l)
-  pub clash : (layout : Layout) (h : List E) (e : E) (more : List E) (c : Cause) → rules.IsLegal layout (h ++ e ∷ more) → rules.HasCause layout h e c → ⊥
+  pub uncaused : (layout : Layout) (h : List E) (e : E) (more : List E) (c : Cause) → rules.IsLegal layout (h ++ e ∷ more) → rules.HasCause layout h e c → ⊥
   pub one_cause : (layout : Layout) (h : List E) (e : E) (c d : Cause) → rules.HasCause layout h e c → rules.HasCause layout h e d → c ≡ d
 
 module _ {A E : Type 0} (gives : Lines A) (rules : Rules A E) (fit : AreFit gives rules) (text : List ℕ) where
@@ -53,7 +53,7 @@ module _ {A E : Type 0} (gives : Lines A) (rules : Rules A E) (fit : AreFit give
       let Q : List E → Type 0 = λ h. rules.IsLegal layout h in
       let S : Layout → Type 0 = λ l. rules.IsLegal l (flat_map rules.tells asked ++ tail) in
       let R : List E → Type 0 = λ h. rules.HasCause layout h x.event stop.cause in
-      fit.clash layout (first ++ x.first) x.event (x.rest ++ (others ++ tail)) stop.cause (subst Q shape (subst S has (legal c.0 at_end)))
+      fit.uncaused layout (first ++ x.first) x.event (x.rest ++ (others ++ tail)) stop.cause (subst Q shape (subst S has (legal c.0 at_end)))
       (subst R x.events_are x.caused)
 
   -- nor is a line that has a fault
@@ -68,7 +68,7 @@ module _ {A E : Type 0} (gives : Lines A) (rules : Rules A E) (fit : AreFit give
       by_behind [] fault ended = ended refl
       by_behind (next ∷ rest) fault ended =
           let same = same_lead gives stage.Version x.reached y.reached x.at.before x.asked y.first x.at.leads y.leads in
-          clash (sym y.given ∙ ap (λ s. gives s x.line) (sym same.0) ∙ fault)
+          ok_is_no_err (sym y.given ∙ ap (λ s. gives s x.line) (sym same.0) ∙ fault)
 
   cut : (n m : ℕ) (s t : Stage) (asked others : List A) (line other : List ℕ) (behind rest : List (List ℕ))
       → (x : IsLineAt gives text n s asked line behind) (y : IsLineAt gives text m t others other rest) → Places x.before y.before line other behind rest
@@ -148,10 +148,10 @@ module _ {A E : Type 0} (gives : Lines A) (rules : Rules A E) (fit : AreFit give
           (s.before, fit.one_cause layout (h ++ first) e c d caused (subst Q (sym s.here) (subst P (sym s.before) also)))
       by_place (inr (inl s)) =
           let P : List E → Type 0 = λ hs. rules.IsLegal layout hs in
-          absurd (fit.clash layout (h ++ first) e s.more c (subst P (ap (λ hs. h ++ hs) s.before ∙ sym (append_assoc h first (e ∷ s.more))) too) caused)
+          absurd (fit.uncaused layout (h ++ first) e s.more c (subst P (ap (λ hs. h ++ hs) s.before ∙ sym (append_assoc h first (e ∷ s.more))) too) caused)
       by_place (inr (inr s)) =
           let P : List E → Type 0 = λ hs. rules.IsLegal layout hs in
-          absurd (fit.clash layout (h ++ others) f s.more d (subst P (ap (λ hs. h ++ hs) s.before ∙ sym (append_assoc h others (f ∷ s.more))) legal) also)
+          absurd (fit.uncaused layout (h ++ others) f s.more d (subst P (ap (λ hs. h ++ hs) s.before ∙ sym (append_assoc h others (f ∷ s.more))) legal) also)
 
   both_stop : (l m : Layout) (h k : List E) (stop end : Stop) → StopsWith gives rules text l h stop → StopsWith gives rules text m k end
       → (l ≡ m) × (h ≡ k) × (stop ≡ end)
@@ -199,7 +199,7 @@ module _ {A E : Type 0} (gives : Lines A) (rules : Rules A E) (fit : AreFit give
       by_place (inl s) =
           let same = one_lead x.reached y.reached x.asked y.asked x.at.before y.at.before s.before x.at.leads y.at.leads in
           let wrong = faulty_line y.reached y.line y.behind e.kind (λ none. x.ended (s.after ∙ none)) y.fault in
-          clash (sym x.given ∙ ap (λ t. gives t x.line) same.0 ∙ ap (gives y.reached) s.here ∙ wrong)
+          ok_is_no_err (sym x.given ∙ ap (λ t. gives t x.line) same.0 ∙ ap (gives y.reached) s.here ∙ wrong)
       by_place (inr (inl s)) =
           stop_passed l h stop x s.more y.reached y.asked [] (led y.reached y.asked y.at.before _ s.before y.at.leads) (legal_of_refused e y)
       by_place (inr (inr s)) =

@@ -5,7 +5,7 @@ use Rattle.wq_table.proofs.Common.{Rest, head, busy_word, Stage, Sends, Owns, pa
 use Rattle.wq_words.specs.History.{running}
 use Rattle.wq_words.proofs.Seen.{held_same}
 use Rattle.wq_core.specs.declared.step.Step.TheVariants.{Look, Walk}
-use Rattle.wq_core.specs.Words.{head_place, closed_word, draining_word, idle_word, head_at, item_of}
+use Rattle.wq_core.specs.Words.{head_place, closed_word, draining_word, resting_word, head_at, item_of}
 use Rattle.wq_core.proofs.OwnerSteps.{cursor_is}
 use Rattle.wq_table.specs.Chair.{IsSender, HasSeen, HasLinked, IsOwner, HasWalked, IsToWalk, IsToTurn, IsToBegin}
 use Rattle.wq_table.proofs.Moves.{goes_still, shelves_take, shelves_close, shelves_drain, shelves_resume, shelves_rest, shelves_end, goes_hold}
@@ -79,7 +79,7 @@ module _ {V : Type 0} (c : ℕ) (layout : Layout) (seen : List Event) (words : L
   by_rest slots hand (Sends q) still = absurd still
   by_rest slots hand (Owns cursor walked batch) still = λ m brs homes sound fits wide sh.
       goes_still m (part c layout seen words (Owns cursor walked batch)) brs homes sh Rest _ _ hand
-      (shelves_rest m (part c layout seen words (Owns cursor walked batch)) brs homes sh (head m == busy_word) (set m.words head_place idle_word))
+      (shelves_rest m (part c layout seen words (Owns cursor walked batch)) brs homes sh (head m == busy_word) (set m.words head_place resting_word))
       (refl, refl)
 
   pub by_check : (k slots : ℕ) (hand : Hand V) (stage : Stage) → IsSender stage → GoesBy slots (part c layout seen words stage) None (Check k) hand

@@ -10,7 +10,7 @@ use Rattle.wq_words.specs.declared.head.Head.TheVariants.{Item}
 use Rattle.wq_words.specs.Head.{head_word}
 use Rattle.wq_words.specs.History.{IsClosed, IsShut, IsDraining, IsRunning}
 use Rattle.wq_core.specs.declared.step.Seat.TheVariants.{Sender}
-use Rattle.wq_core.specs.Words.{link_place, item_place, closed_word, draining_word, idle_word, TakesPushes, link_word}
+use Rattle.wq_core.specs.Words.{link_place, item_place, closed_word, draining_word, resting_word, TakesPushes, link_word}
 use Rattle.wq_core.specs.Machine.{HasSeenOpen, HasSeenCause}
 use Rattle.wq_table.proofs.Operations.{item_word-bit, loads, sets_bit, clears_bit, exchanges}
 use Rattle.wq_table.specs.Plays.{item_at}
@@ -248,7 +248,7 @@ module _ (c : ℕ) (layout : Layout) (seen : List Event) (words : List ℕ) wher
   }
 
   pub performs_rest : (stage : Stage) → ¬ IsShut seen → HasWalked stage → HasNone stage → ¬ IsRunning seen
-      → Performs (part c layout seen words stage) Rest 0 (λ n. either (eqb n busy_word) idle_word n) (λ n. n)
+      → Performs (part c layout seen words stage) Rest 0 (λ n. either (eqb n busy_word) resting_word n) (λ n. n)
   performs_rest (Sends p) opens still none idle = absurd still
   performs_rest (Owns cursor walked batch) opens still none idle = record {
     made = λ m sound fits. (
@@ -260,6 +260,6 @@ module _ (c : ℕ) (layout : Layout) (seen : List Event) (words : List ℕ) wher
         (λ runs. idle (running_same m.history seen (rw (← fits.keeps.0) (sym fits.mine)) runs)),
       ),
     );
-    writes = λ m sound fits. exchanges _ _ m.words busy_word idle_word (head m) refl refl refl (head m == busy_word) refl;
+    writes = λ m sound fits. exchanges _ _ m.words busy_word resting_word (head m) refl refl refl (head m == busy_word) refl;
     finds = λ m sound fits. refl;
   }

@@ -4,7 +4,7 @@ use Rattle.wq_text.proofs.Common.{option_to_list, Layout, Kind, ScriptError, Sta
 use Rattle.wq_text.proofs.Common.{HasOneOutcome, same_Some}
 use Rattle.wq_text.specs.declared.header.Stage.TheVariants as stage
 use Rattle.wq_words.proofs.Lists.{none_cons}
-use Rattle.wq_words.proofs.Cases.{same_ok, same_err, clash}
+use Rattle.wq_words.proofs.Cases.{same_ok, same_err, ok_is_no_err}
 
 -- a header that is whole has no fault
 pub whole_or_not : (s : Stage) (layout : Layout) (k : Kind) → layout_at s ≡ Some layout → end_fault s ≡ Some k → ⊥
@@ -37,7 +37,7 @@ module _ {A : Type 0} (gives : Lines A) where
       → line ∷ behind ≡ other ∷ (lines ++ f ∷ rest) → gives s other ≡ Ok x → Stops t line behind → ⊥
   goes_on s t line other behind lines rest f x here same given (inl none) = none_cons lines f rest (sym (tails same) ∙ none)
   goes_on s t line other behind lines rest f x here same given (inr stop) =
-      clash (sym given ∙ ap (gives s) (sym (heads same)) ∙ ap (λ r. gives r line) here ∙ stop.1)
+      ok_is_no_err (sym given ∙ ap (gives s) (sym (heads same)) ∙ ap (λ r. gives r line) here ∙ stop.1)
 
   stops_once : (s t r : Stage) (before lines : List (List ℕ)) (line other : List ℕ) (behind rest : List (List ℕ)) (asked others : List A)
       → before ++ line ∷ behind ≡ lines ++ other ∷ rest

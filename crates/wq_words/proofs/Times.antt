@@ -101,5 +101,5 @@ any_counts q (x ∷ xs) is = go (eqb q x) refl (any_counts q xs)
         omega (arith, times-cons q x xs)
     go false e more = let rest = more (ap (λ (b : Bool). b || list_any (eqb q) xs) (sym e) ∙ is) in omega (arith, times-cons q x xs)
 
-pub few : (xs : List ℕ) (n : ℕ) → ((q : ℕ) → times q xs ≤ 1) → ((q : ℕ) → 1 ≤ times q xs → q < n) → length xs ≤ n
-few xs n once below = length-le_from_distinct_below xs n (distinct xs once) (λ q is. below q (any_counts q xs is))
+pub length-distinct_below : (xs : List ℕ) (n : ℕ) → ((q : ℕ) → times q xs ≤ 1) → ((q : ℕ) → 1 ≤ times q xs → q < n) → length xs ≤ n
+length-distinct_below xs n once below = length-le_from_distinct_below xs n (distinct xs once) (λ q is. below q (any_counts q xs is))
