@@ -9,6 +9,9 @@ specs, in a file that the row names where its table has a column `File`.
 
 Programs and tests are left out, since they promise nothing to a caller. The examples of users count: README.md says what
 their contracts say.
+
+Besides, each file of a crate that a document names by its whole path is there; and where a README or docs/CLAUSES.md quotes code,
+each line of a block but its imports stands in the files that the block, or the paragraph in front of it, names, in that order.
 """
 import re
 import sys
@@ -104,6 +107,28 @@ def defined_words():
             yield number, crates | (CRATES & named), named - CRATES, word
 
 
+def quoting_faults():
+    """What is wrong with the paths and with the blocks of code of the documents, and how many of these were compared."""
+    faults, count = [], 0
+    for page in sorted([*TOP.glob("*.md"), *TOP.glob("docs/*.md"), *TOP.glob("*/README.md"), *TOP.glob("crates/*/README.md")]):
+        text, place = page.read_text(), page.relative_to(TOP)
+        paths = re.findall(r"\bcrates/[\w/]+\.\w+", text)
+        faults += [f"{place}: there is no {path}" for path in paths if "NAME" not in path and not (TOP / path).is_file()]
+        blocks = r"^((?: {0,3}\S.*\n)+)\n((?: {4}.*\n|\n(?= {4}))+)"
+        for before, block in re.findall(blocks, text, re.M) if page.name in ("README.md", "CLAUSES.md") else []:
+            named = re.findall(r"[\w/]+\.(?:rt|antt)\b", before + block)
+            files = [file for name in named for file in (TOP / name, page.parent / name) if file.is_file()]
+            source, at, count = " ".join(" ".join(file.read_text() for file in files).split()), 0, count + bool(files)
+            lines = [" ".join(line.split()) for line in block.splitlines() if files]
+            for line in [line for line in lines if not re.match(r"(ghost )?use |(//|--) crates/", line)]:
+                found = source.find(line, at)
+                if found < 0:
+                    faults.append(f"{place}: `{line}` does not stand in {' and '.join(named)} behind the lines before it")
+                    break
+                at = found + len(line)
+    return faults, count
+
+
 def main():
     contracts, specs, defined = contract_words(), spec_words(), list(defined_words())
     known = {(crate, word) for _, crates, _, word in defined for crate in crates}
@@ -111,10 +136,12 @@ def main():
     for number, crates, files, word in defined:
         if not any(it[2] == word and it[0] in crates and (not files or it[1] in files) for it in specs):
             faults.append(f"docs/DEFINITIONS.md:{number}: {word} is no word of {' and '.join(sorted(files or crates))}")
+    quoted, blocks = quoting_faults()
+    faults += quoted
     for fault in sorted(faults):
         print(fault)
-    print(f"definitions: {len(contracts)} words of contracts, {len(defined)} defined, {len(faults)} not as wanted")
-    return 1 if faults or not contracts else 0
+    print(f"definitions: {len(contracts)} words of contracts, {len(defined)} defined, {blocks} blocks of code, {len(faults)} not as wanted")
+    return 1 if faults or not contracts or not blocks else 0
 
 
 if __name__ == "__main__":
