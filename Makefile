@@ -70,7 +70,8 @@ rows: build
 	checks/recording_page.py $(PROGRAM)
 	checks/trace_lines.py $(PROGRAM)
 
-# Each word that a public contract cites is defined in docs/DEFINITIONS.md, as the gate compares; a second.
+# Each word that a public contract cites is defined in docs/DEFINITIONS.md, and the code that a README quotes stands in the files that it
+# names, as the gate compares; two seconds.
 definitions:
 	checks/definitions.py
 
