@@ -1,6 +1,6 @@
 //! Workers that drained before they came into a pool.
 use crate::expect::expect_same;
-use crate::pool::team::{Logging, new_pool, queue_item, serve_queue};
+use crate::pool::team::{Logging, QUEUED, WAKES, new_pool, queue_item, serve_queue};
 use std::alloc::Global;
 use std::process::Abort;
 use wq_live::{Answer, Sender};
@@ -8,20 +8,10 @@ use wq_pool::Served;
 use wq_words::Layout;
 use wq_worker::{Drained, Ran, Worker};
 
-/// The answers of a first push that wakes nobody, of one behind others, and of a first push that wakes.
+/// The answer of a first push that wakes nobody.
 const FIRST: Answer = Answer::Queued {
     first: true,
     wakes: false,
-};
-
-const QUEUED: Answer = Answer::Queued {
-    first: false,
-    wakes: false,
-};
-
-const WAKES: Answer = Answer::Queued {
-    first: true,
-    wakes: true,
 };
 
 /// A worker of a queue of 104 items, whose work asks for an item below 100 where it runs one from 100 on, and its sender.

@@ -4,13 +4,12 @@ ghost use Rattle.wq_ready.specs.Known.{IsCallerOf};
 
 use crate::expect::expect_same;
 use crate::pool::team::{
-    all_filled, finish_all, finish_out, finish_unfinished, new_pool, two_filled, work,
+    WAKES, all_filled, finish_all, finish_out, finish_unfinished, new_pool, two_filled, work,
 };
 use crate::pool::values::{Ordered, all_with_values, two_with_values};
 use std::alloc::Global;
 use std::process::Abort;
 use std::sync::Wait;
-use wq_live::Answer;
 use wq_pool::{AnnounceError, Caller, NoGate, PoolError, PoolOf, ServedOf, TurnOf};
 use wq_worker::Station;
 
@@ -26,13 +25,9 @@ fn fill<R: Abort + Wait, K: Station + Drop>(rt: &R, pool: &PoolOf<K>, caller: &m
         pool.announce(rt, caller, 2),
         Err(AnnounceError::NoQueue),
     );
-    let wakes = Answer::Queued {
-        first: true,
-        wakes: true,
-    };
     expect_same(
         rt,
-        pool.wake(rt, caller, 2, wakes),
+        pool.wake(rt, caller, 2, WAKES),
         Err(AnnounceError::NoQueue),
     );
 }

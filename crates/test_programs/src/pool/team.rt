@@ -91,6 +91,18 @@ impl Gate for Counting {
     }
 }
 
+/// The answer of a first push that wakes.
+pub(crate) const WAKES: Answer = Answer::Queued {
+    first: true,
+    wakes: true,
+};
+
+/// The answer of a push behind others.
+pub(crate) const QUEUED: Answer = Answer::Queued {
+    first: false,
+    wakes: false,
+};
+
 /// Queues an item of the queue in one try.
 pub(crate) fn queue_item<R: Abort>(rt: &R, sender: &mut Sender, item: u32) -> Answer {
     assert!(rt; item < sender.layout().items);
