@@ -3,6 +3,7 @@ mod again;
 mod draining;
 mod drops;
 mod hands;
+mod lying;
 mod many;
 mod overlap;
 mod owing;

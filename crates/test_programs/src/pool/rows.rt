@@ -48,7 +48,7 @@ fn end_turn<R: Abort, K: Station + Drop>(
 }
 
 /// The pool ends within a limit, and its two queues have run these items.
-fn check_ended<R: Abort, K: Station + Drop>(
+pub(crate) fn check_ended<R: Abort, K: Station + Drop>(
     rt: &R,
     pool: PoolOf<K>,
     limit: u32,
