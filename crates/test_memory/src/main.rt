@@ -9,6 +9,7 @@ mod host;
 mod log;
 mod pool;
 mod streams;
+mod table;
 mod value_worker;
 mod values;
 mod worker;

@@ -1,0 +1,81 @@
+//! A delay table.
+use crate::calls::Said;
+use std::alloc::Global;
+use wq_delay::{Armed, Delay, Modified, NoRoom};
+use wq_live::build;
+use wq_words::Layout;
+
+/// How many items a table has. Its wheel has 256 slots, however many items there are.
+const ITEMS: u32 = 16;
+
+/// Arms an item that is not on the table and sets its delay anew. None where memory was wanting, which left the table as it was.
+fn arm_and_move(delay: &mut Delay, item: u32) -> Option<bool> {
+    if item >= delay.layout().items {
+        return Some(false);
+    }
+    let before = delay.len();
+    match delay.arm(item, 5, 1) {
+        Armed::OnTable | Armed::Pending => {}
+        Armed::Memory if delay.len() == before => return None,
+        _ => return Some(false),
+    }
+    if item >= delay.layout().items {
+        return Some(false);
+    }
+    let before = delay.len();
+    match delay.modify(item, 9, 1) {
+        Modified::Moved => Some(true),
+        Modified::Memory if delay.len() == before => None,
+        _ => Some(false),
+    }
+}
+
+/// Arms and moves all items. None where memory was wanting.
+fn arm_all(delay: &mut Delay) -> Option<bool> {
+    for item in 0..ITEMS {
+        if !arm_and_move(delay, item)? {
+            return Some(false);
+        }
+    }
+    Some(true)
+}
+
+/// Whether all items are due at their tick and none before. None where memory was wanting.
+fn is_due(delay: &Delay) -> Option<bool> {
+    let early = delay.due_list(8).ok()?;
+    let due = delay.due_list(9).ok()?;
+    Some(early.is_empty() && due.len() == ITEMS as usize)
+}
+
+/// Puts items on a table and reads it, again where memory was wanting.
+fn fill_table(delay: &mut Delay) -> Said {
+    let moved = arm_all(delay);
+    let again = moved.is_none() && arm_all(delay) == Some(true);
+    if moved != Some(true) && !again {
+        return Said::Wrong;
+    }
+    match (is_due(delay), is_due(delay)) {
+        (Some(true), Some(true)) => if again { Said::Again } else { Said::Right },
+        (None, Some(true)) | (Some(true), None) => Said::Again,
+        _ => Said::Wrong,
+    }
+}
+
+pub fn make_table(alloc: Global) -> Said {
+    let Ok(layout) = Layout::new(ITEMS, 1, 1) else {
+        return Said::Wrong;
+    };
+    let Ok((_owner, mut senders)) = build(alloc, layout) else {
+        return Said::Memory;
+    };
+    let Some(sender) = senders.pop() else {
+        return Said::Wrong;
+    };
+    match Delay::new(alloc, sender, 0) {
+        Ok(mut delay) => fill_table(&mut delay),
+        Err(NoRoom { sender }) => match Delay::new(alloc, sender, 0) {
+            Ok(_) => Said::Again,
+            Err(_) => Said::Wrong,
+        },
+    }
+}
