@@ -24,12 +24,17 @@ fn queue(alloc: Global, layout: Layout) -> Option<(Served<Counter>, Sender)> {
     Some((Served::new(worker), sender))
 }
 
-/// Queues the item. Whether it was queued.
-fn queue_item(sender: &mut Sender) -> bool {
+/// Queues the item. None where the queue has none.
+fn queue_item(sender: &mut Sender) -> Option<Answer> {
     if sender.layout().items == 0 {
-        return false;
+        return None;
     }
-    matches!(sender.queue_tries(0, 1), Answer::Queued { .. })
+    Some(sender.queue_tries(0, 1))
+}
+
+/// Queues the item. Whether it was queued.
+fn is_queued(sender: &mut Sender) -> bool {
+    matches!(queue_item(sender), Some(Answer::Queued { .. }))
 }
 
 /// Two queues, and a sender of each.
@@ -61,9 +66,9 @@ fn have_run(finished: &[(Counter, Book)], runs: u32) -> bool {
 
 /// Takes the pool apart, for which memory was wanting before. No queue was touched then: each takes its item once more.
 fn finish_again(pool: Pool<Counter>, one: &mut Sender, two: &mut Sender) -> Said {
-    let are_queued = queue_item(one) && queue_item(two);
+    let are_queued = is_queued(one) && is_queued(two);
     match pool.finish(9) {
-        Ok(finished) => if are_queued && have_run(&finished, 2) {
+        Ok(finished) => if are_queued && have_run(&finished, 3) {
             Said::Again
         } else {
             Said::Wrong
@@ -75,7 +80,7 @@ fn finish_again(pool: Pool<Counter>, one: &mut Sender, two: &mut Sender) -> Said
 /// Takes the pool apart, once more where memory was wanting.
 fn finish(pool: Pool<Counter>, one: &mut Sender, two: &mut Sender) -> Said {
     match pool.finish(9) {
-        Ok(finished) => right(have_run(&finished, 1)),
+        Ok(finished) => right(have_run(&finished, 2)),
         Err(PoolFault::Memory { pool }) => finish_again(pool, one, two),
         Err(_fault) => Said::Wrong,
     }
@@ -84,10 +89,46 @@ fn finish(pool: Pool<Counter>, one: &mut Sender, two: &mut Sender) -> Said {
 /// Announces both queues, and serves them in one thread until each has run its stop item. Whether that was done.
 fn is_served<T: Threads + Wait + Sync>(rt: &T, pool: &Pool<Counter>, caller: &mut Caller) -> bool
     requires { IsCallerOf pool.now.ready caller.old }
+    ensures { IsCallerOf pool.now.ready caller.new }
 {
     let first = pool.announce(rt, caller, 0);
     let second = pool.announce(rt, caller, 1);
     first.is_ok() && second.is_ok() && pool.run(rt, slice::from_mut(caller), &NoGate).is_ok()
+}
+
+/// Queues the item of a queue, does what the answer asks for, and picks a queue, works at it and puts it back. Whether it was this
+/// one, and nothing of it was left. How often the item ran is seen where the pool is taken apart.
+fn is_served_by_hand<T: Wait>(
+    rt: &T,
+    pool: &Pool<Counter>,
+    caller: &mut Caller,
+    sender: &mut Sender,
+    queue: u32,
+) -> bool
+    requires { IsCallerOf pool.now.ready caller.old }
+    ensures { IsCallerOf pool.now.ready caller.new }
+{
+    let Some(answer) = queue_item(sender) else {
+        return false;
+    };
+    let woken = pool.wake(rt, caller, queue, answer);
+    let Some(turn) = pool.pick(rt, caller) else {
+        return false;
+    };
+    let Ok(worked) = turn.work(1, &NoGate) else {
+        return false;
+    };
+    let is_this = worked.queue() == queue;
+    pool.put_back(caller, worked);
+    woken.is_ok() && is_this
+}
+
+/// Whether nothing is announced, also by an answer that wakes nobody: then no queue is picked.
+fn is_quiet<T: Wait>(rt: &T, pool: &Pool<Counter>, caller: &mut Caller) -> bool
+    requires { IsCallerOf pool.now.ready caller.old }
+{
+    let woken = pool.wake(rt, caller, 0, Answer::Pending);
+    woken.is_ok() && pool.pick(rt, caller).is_none()
 }
 
 /// Serves a pool of two queues by its one caller, and takes it apart.
@@ -103,14 +144,18 @@ fn serve_both<T: Threads + Wait + Sync>(
     let Some(mut caller) = callers.pop() else {
         return Said::Wrong;
     };
-    if is_served(rt, &pool, &mut caller) {
+    if is_served(rt, &pool, &mut caller)
+        && is_served_by_hand(rt, &pool, &mut caller, &mut one, 0)
+        && is_served_by_hand(rt, &pool, &mut caller, &mut two, 1)
+        && is_quiet(rt, &pool, &mut caller)
+    {
         finish(pool, &mut one, &mut two)
     } else {
         Said::Wrong
     }
 }
 
-/// Makes a pool of two queues, serves both to their stop items, and takes it apart.
+/// Makes a pool of two queues, serves both to their stop items and then by hand, and takes it apart.
 pub fn serve_pool<T: Threads + Wait + Sync>(rt: &T, alloc: Global) -> Said {
     let Some(Two { queues, one, two }) = two_queues(alloc) else {
         return Said::Memory;

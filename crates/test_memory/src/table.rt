@@ -1,15 +1,19 @@
-//! A delay table.
+//! A delay table, from its making to its end.
+ghost use Rattle.std.specs.Prelude.{◌≡◌};
+
 use crate::calls::Said;
 use std::alloc::Global;
 use wq_delay::{Armed, Delay, Modified, NoRoom};
-use wq_live::build;
+use wq_live::{Answer, Sender, build};
 use wq_words::Layout;
 
 /// How many items a table has. Its wheel has 256 slots, however many items there are.
 const ITEMS: u32 = 16;
 
 /// Arms an item that is not on the table and sets its delay anew. None where memory was wanting, which left the table as it was.
-fn arm_and_move(delay: &mut Delay, item: u32) -> Option<bool> {
+fn arm_and_move(delay: &mut Delay, item: u32) -> Option<bool>
+    ensures { delay.new.sender.queue ≡ delay.old.sender.queue }
+{
     if item >= delay.layout().items {
         return Some(false);
     }
@@ -31,7 +35,9 @@ fn arm_and_move(delay: &mut Delay, item: u32) -> Option<bool> {
 }
 
 /// Arms and moves all items. None where memory was wanting.
-fn arm_all(delay: &mut Delay) -> Option<bool> {
+fn arm_all(delay: &mut Delay) -> Option<bool>
+    ensures { delay.new.sender.queue ≡ delay.old.sender.queue }
+{
     for item in 0..ITEMS {
         if !arm_and_move(delay, item)? {
             return Some(false);
@@ -48,7 +54,9 @@ fn is_due(delay: &Delay) -> Option<bool> {
 }
 
 /// Puts items on a table and reads it, again where memory was wanting.
-fn fill_table(delay: &mut Delay) -> Said {
+fn fill_table(delay: &mut Delay) -> Said
+    ensures { delay.new.sender.queue ≡ delay.old.sender.queue }
+{
     let moved = arm_all(delay);
     let again = moved.is_none() && arm_all(delay) == Some(true);
     if moved != Some(true) && !again {
@@ -61,18 +69,59 @@ fn fill_table(delay: &mut Delay) -> Said {
     }
 }
 
+/// Queues an item. Whether it was queued.
+fn queue_item(sender: &mut Sender, item: u32) -> bool {
+    if item >= sender.layout().items {
+        return false;
+    }
+    matches!(sender.queue_tries(item, 1), Answer::Queued { .. })
+}
+
+/// Queues all items. Whether each was queued.
+fn queue_all(sender: &mut Sender) -> bool {
+    let mut are_queued = true;
+    for item in 0..ITEMS {
+        are_queued = queue_item(sender, item) && are_queued;
+    }
+    are_queued
+}
+
+/// Has a table meet another sender, and dissolves it. Whether all items lay on it until then, and the sender that it leaves queues
+/// each of them.
+fn leave_table(mut delay: Delay, mut other: Sender) -> bool
+    requires { delay.sender.queue ≡ other.queue }
+{
+    delay.meet(&mut other);
+    let were_held = delay.len() == ITEMS as usize && !queue_item(&mut other, 0);
+    let mut sender = delay.dissolve();
+    queue_all(&mut sender) && were_held
+}
+
+/// Fills a table, and leaves it beside another sender of its queue.
+fn use_table(mut delay: Delay, other: Sender) -> Said
+    requires { delay.sender.queue ≡ other.queue }
+{
+    let said = fill_table(&mut delay);
+    if leave_table(delay, other) {
+        said
+    } else {
+        Said::Wrong
+    }
+}
+
+/// Makes a table over a sender of a queue, fills it, and dissolves it.
 pub fn make_table(alloc: Global) -> Said {
-    let Ok(layout) = Layout::new(ITEMS, 1, 1) else {
+    let Ok(layout) = Layout::new(ITEMS, 1, 2) else {
         return Said::Wrong;
     };
     let Ok((_owner, mut senders)) = build(alloc, layout) else {
         return Said::Memory;
     };
-    let Some(sender) = senders.pop() else {
+    let (Some(sender), Some(other)) = (senders.pop(), senders.pop()) else {
         return Said::Wrong;
     };
     match Delay::new(alloc, sender, 0) {
-        Ok(mut delay) => fill_table(&mut delay),
+        Ok(delay) => use_table(delay, other),
         Err(NoRoom { sender }) => match Delay::new(alloc, sender, 0) {
             Ok(_) => Said::Again,
             Err(_) => Said::Wrong,
