@@ -75,7 +75,7 @@ built signals
 timeout 60 "$work/signals"
 built signals -DWQ_UNCHECKED
 timeout 60 "$work/signals" >"$work/said"
-built refusals -Wl,--wrap=wq_c_seat_size,--wrap=wq_c_seat_align,--wrap=pthread_create
+built refusals -Wl,--wrap=wq_c_seat_size,--wrap=wq_c_seat_align,--wrap=pthread_create,--wrap=pthread_join
 timeout 60 "$work/refusals"
 # the headers alone, as each compiler that is there takes them, without a warning
 alone=(-pedantic -Wall -Wextra -Wconversion -Wsign-conversion -Wshadow -Wredundant-decls -Werror -Iinclude -fsyntax-only)

@@ -6,10 +6,10 @@
  * finds one there tries again until it has gone. A sender's thread calls wq_worker_queue and wq_worker_flush, or hands what a call
  * of wq.h answered to wq_worker_wake. One thread at a time calls wq_worker_drain, wq_worker_resume, wq_worker_finish and
  * wq_worker_stop, and beside it the worker's own function may call the last two. That function returns: it neither ends its thread
- * nor lets an exception out. It calls none of the first two and no wq_worker_flush: each waits for the function to return. In the
- * owner's seat it calls wq_chain, wq_hand_out and what only looks; a wq_close or wq_drain there stops or drains the queue, but the
- * worker knows nothing of it, and sleeps until it is asked to. wq_worker_resume alone does not end such a drain: call wq_worker_drain
- * first.
+ * nor lets an exception out. It calls none of the first two and no wq_worker_flush, nor waits for a thread that is in one of the five:
+ * each waits for the function to return. In the owner's seat it calls wq_chain, wq_hand_out and what only looks; a wq_close or wq_drain
+ * there stops or drains the queue, but the worker knows nothing of it, and sleeps until it is asked to. wq_worker_resume alone does not
+ * end such a drain: call wq_worker_drain first.
  *
  * Neither the worker, a seat nor the function is NULL, which nothing finds out. Any call may change errno. The join in wq_worker_finish
  * and wq_worker_stop is a cancellation point, and no other call is one; after it another thread may call them.
@@ -219,21 +219,24 @@ static inline void wq_worker_resume(wq_worker *worker) {
 
 /* Closes the queue, executes all that was accepted, and ends the thread. The owner's seat is the caller's again, to count and release. A
  * second time it does nothing, nor of a worker that was not started, in memory that is zero. In the worker's own function it asks for
- * all this and returns at once, and another thread's call waits for it. */
+ * all this and returns at once, and another thread's call waits for it. So it is where pthread_join finds out that the function waits for
+ * the thread that calls this (EDEADLK), which it need not. */
 static inline void wq_worker_finish(wq_worker *worker) {
     if (!worker->runs) return;
     wq_worker_ask(worker, WQ_STOPPED);
     if (pthread_equal(worker->thread, pthread_self())) return; /* no thread joins itself: it ends, and another one joins it */
-    pthread_join(worker->thread, NULL);
+    if (pthread_join(worker->thread, NULL) != 0) return;       /* nor one that joins this thread: the worker runs still */
     wq_worker_disclaim(worker->owner);
     worker->runs = 0;
 }
 /* The same, also after it, and gives the owner's seat up. The worker's memory is still that of each sender whose call has not returned
  * (above). WQ_NO_SEAT of a worker that was not started, in memory that is zero, or that has given its seat up, and WQ_NOT_DONE in the
- * worker's own function. Whoever releases the seat behind wq_worker_finish does so once, by this or by wq_release. */
+ * worker's own function, or where pthread_join was refused. Whoever releases the seat behind wq_worker_finish does so once, by this or by
+ * wq_release. */
 static inline uint32_t wq_worker_stop(wq_worker *worker) {
     uint32_t code;
     wq_worker_finish(worker);
+    if (worker->runs) return WQ_NOT_DONE; /* it was not joined, and the seat is the worker's still */
     if (!worker->owner) return WQ_NO_SEAT;
     code = wq_release(worker->owner);
     if (code == WQ_OK) worker->owner = NULL; /* a start that is refused writes nothing, and a stop may come behind it */
