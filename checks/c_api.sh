@@ -308,6 +308,10 @@ if command -v pkg-config >/dev/null; then
             "$compiler" -x c++ -std=c++11 $checked -Wall -Wextra -Werror "${flags[@]}" -fsyntax-only "$work/page.c"
         done
     done
+    odd="/opt/a \"b'c\\d #e"
+    checks/c_install.sh "$work" "$odd" "$work/odd"
+    eval "flags=($(PKG_CONFIG_PATH=$work/odd$odd/lib/pkgconfig pkg-config --cflags yeangvos))"
+    [ "${flags[0]-}" = "-I$odd/include" ] || { echo "pkg-config: ${flags[0]-nothing} for a PREFIX $odd"; exit 1; }
     echo "pkg-config: the installed library serves, and the program of docs/C.md runs"
 else
     left_out pkg-config

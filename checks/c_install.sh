@@ -44,8 +44,10 @@ for page in man/*.3; do
 done
 put 644 share/doc/yeangvos docs/C.md
 put 644 share/doc/yeangvos/examples/c examples/c/logger.c examples/c/logger.py examples/c/sensors.c
+# what pkg-config and the shell that its flags go to would take for something else
+escaped=$(sed "s/[ '\"#\\]/\\\\&/g" <<<"$prefix")
 put_text lib/pkgconfig/yeangvos.pc <<TEXT
-prefix=${prefix// /\\ }
+prefix=$escaped
 libdir=\${prefix}/lib
 includedir=\${prefix}/include
 
