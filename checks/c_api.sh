@@ -219,6 +219,7 @@ diff -r "$work/staged" "$work/from/here"
 for given in "$work" --remove; do
     refuses "c_install.sh: PREFIX is opt/wq, and no path from the root" checks/c_install.sh "$given" opt/wq "$work/refused"
 done
+refuses "c_library.sh: $(realpath -m "$work/refused") is no folder" checks/c_library.sh "$work/refused"
 refuses "c_install.sh: $(realpath "$work/runs") has no libyeangvos.a" checks/c_install.sh "$work/runs" /opt/wq "$work/refused"
 [ ! -e "$work/refused" ] || { echo "install: something is installed of a folder without the library"; exit 1; }
 # left BELOW: the files there

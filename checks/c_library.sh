@@ -5,6 +5,7 @@
 # PROVED=1 says that `rt ci` has proved and built it in this tree, and wq_c is built over that.
 set -euo pipefail
 folder=$(realpath "${1:?usage: checks/c_library.sh FOLDER}")
+[ -d "$folder" ] || { echo "c_library.sh: $folder is no folder" >&2; exit 1; } # else the library would be a file of that name
 cd "$(dirname "${BASH_SOURCE[0]}")/.."
 kit=$(dirname "$(dirname "$(realpath "$(command -v rt)")")")
 backend=${BACKEND:-llvm}
