@@ -13,6 +13,7 @@ if [[ $work = *[[:space:]]* ]]; then
     exit 1
 fi
 export LD_LIBRARY_PATH=$work YEANGVOS_LIBRARY=$work/libyeangvos.so PYTHONPATH=include PYTHONDONTWRITEBYTECODE=1
+unset PYTHONOPTIMIZE # which leaves out what the programs in Python assert
 if ! command -v "${CC:-cc}" >/dev/null; then
     echo "c: no C compiler, so nothing was tested: name one by CC" >&2
     exit 1
