@@ -21,7 +21,10 @@ int __wrap_pthread_create(pthread_t *thread, const pthread_attr_t *attributes, v
     return starts ? __real_pthread_create(thread, attributes, run, given) : EAGAIN;
 }
 
-int __wrap_pthread_join(pthread_t thread, void **left) { return joins ? __real_pthread_join(thread, left) : EDEADLK; }
+int __wrap_pthread_join(pthread_t thread, void **left) {
+    CHECK(starts); /* else there is none to join */
+    return joins ? __real_pthread_join(thread, left) : EDEADLK;
+}
 
 static wq_seat owner, sender;
 
