@@ -1,5 +1,6 @@
 /* What no call alone brings about: a library whose seat is larger than the header's room, or aligned by more, a system that starts
- * no thread, and one that joins none. Link with -Wl,--wrap=wq_c_seat_size,--wrap=wq_c_seat_align,--wrap=pthread_create,--wrap=pthread_join. */
+ * no thread, and one that joins none. Link with -Wl,--wrap=wq_c_seat_size,--wrap=wq_c_seat_align and
+ * -Wl,--wrap=pthread_create,--wrap=pthread_join. */
 #include "check.h"
 #include "wq_worker.h"
 #include <errno.h>
