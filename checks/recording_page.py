@@ -3,8 +3,8 @@
 recording_page.py PROGRAM.
 
 The page's own lines, as they stand, are put where it says into a queue under a lock, with three senders and one worker.
-What the queue then prints must be legal and drained, as PROGRAM judges it. Rust is left out where no compiler of it runs; one of C is
-wanted.
+What the queue then prints must be legal and drained, as PROGRAM judges it, and have each item queued, since a recording of nothing
+is legal, too. Rust is left out where no compiler of it runs; one of C is wanted.
 """
 import os
 import re
@@ -14,6 +14,8 @@ import sys
 import tempfile
 
 TOP = os.path.dirname(os.path.dirname(os.path.abspath(__file__)))
+# how many items the queue has, each of which comes at least once
+ITEMS = 64
 
 C = """
 #include <pthread.h>
@@ -140,6 +142,12 @@ def said_of(page, language, text, ending, words, program, folder):
     return subprocess.run([program, "check", "--drained", trace], capture_output=True, text=True, timeout=60)
 
 
+def is_wanted(said):
+    """Whether the recording is legal and drained, and has each item at least once."""
+    queued = re.search(r"^queued (\d+)$", said.stdout, re.M)
+    return said.returncode == 0 and said.stdout.startswith("legal\n") and queued is not None and int(queued[1]) >= ITEMS
+
+
 def main():
     if len(sys.argv) != 2:
         sys.exit(__doc__)
@@ -154,9 +162,9 @@ def main():
         with tempfile.TemporaryDirectory() as folder:
             said = said_of(page, language, text, ending, words, os.path.realpath(sys.argv[1]), folder)
         lines = said.stdout.splitlines()
-        is_wanted = said.returncode == 0 and "legal" in lines
-        wrong += not is_wanted
-        print(f"recording page: {language}, {' '.join(lines)}" + ("" if is_wanted else f": not as wanted, status {said.returncode} {said.stderr}"))
+        is_right = is_wanted(said)
+        wrong += not is_right
+        print(f"recording page: {language}, {' '.join(lines)}" + ("" if is_right else f": not as wanted, status {said.returncode} {said.stderr}"))
     sys.exit(wrong != 0)
 
 
