@@ -25,8 +25,8 @@ from random_recordings import judged
 CONVERTER = Path(__file__).resolve().parent.parent / "examples/recording/wq_trace.py"
 
 
-def ftrace(event, work, more="", task=57):
-    return f"     kworker/u8:1-{task}      [001] d..2.   104.367288: workqueue_{event}: work struct{work}{more}"
+def ftrace(event, work, more="", task=57, processor=1):
+    return f"     kworker/u8:1-{task}      [{processor:03}] d..2.   104.367288: workqueue_{event}: work struct{work}{more}"
 
 
 def queued(work, queue="mine", function="f [m]"):
@@ -236,6 +236,10 @@ ROWS = [
             (ended("aa"), "end 0"),
         ],
     ),
+    (
+        "a task that goes to another processor in its work",
+        [(queued("aa"), "queue 0"), (started("aa"), "start 0"), (ftrace("execute_end", " aa", ": function f", processor=2), "end 0")],
+    ),
     ("events lost, in ftrace", [(queued("aa"), "queue 0"), ("CPU:2 [LOST 120 EVENTS]", "lost")]),
     ("events lost, nobody knows how many", [("CPU:2 [LOST EVENTS]", "lost")]),
     ("events lost, in trace-cmd", [("CPU:2 [120 EVENTS DROPPED]", "lost")]),
@@ -295,15 +299,17 @@ MANY = [*whole("a", 0), (queued("a", "other"), "#")]
 MANY += [(queued("b"), "queue 1"), *whole("c", 2), *whole("d", 3), *runs("b", 1)]
 MANY += [*whole("e", 0), *whole("f", 2), *whole("c", 3), *whole("b", 1), *whole("d", 0)]
 
-# one that runs and one that waits keep their numbers, and a fifth has none
+# one that runs and one that waits keep their numbers, also where none is free, and a fifth has none
 BUSY = [(queued("a"), "queue 0"), (started("a"), "start 0"), (queued("b"), "queue 1"), *whole("c", 2), *whole("d", 3)]
-BUSY += [(queued("e"), "queue 2"), (queued("f"), "queue 3"), (queued("10"), "lost")]
+BUSY += [(queued("e"), "queue 2"), (queued("f"), "queue 3"), (queued("b"), "queue 1"), (queued("10"), "lost")]
 
 # each event, of another queue
 ELSEWHERE = [queued("ee", "elsewhere"), started("ee"), ended("ee")]
 OVERTAKES = [queued("aa"), queued("bb"), queued("aa"), started("bb")]
 OVERLAPS = [*OVERTAKES[:3], started("aa"), started("bb"), *ELSEWHERE]
 TWICE = [queued("aa"), started("aa"), ended("aa"), queued("aa"), queued("bb"), queued("aa"), "# the end"]
+AT_ONCE = [*TWICE[:3], queued("bb"), started("bb"), ended("bb"), queued("aa"), queued("bb"), started("aa"), started("aa")]
+THRICE = [*TWICE[:3], *[queued("bb")] * 3]
 LOST = "CPU:2 [LOST 120 EVENTS]"
 QUEUES = [f"q{number:02}" for number in range(21)]
 OF_QUEUES = [queued("aa", queue) for queue in QUEUES]
@@ -339,6 +345,8 @@ WRITTEN = [
 VERDICTS = [
     ("the one that is next was queued twice", OVERTAKES, 4, "not legal", at(4, OVERTAKES) + at(1, OVERTAKES, "queue 0, ")),
     ("the one that runs was queued twice", OVERLAPS, 4, "not legal", at(5, OVERLAPS) + at(4, OVERLAPS, "start 0, ")),
+    ("the one that runs ran before, and is started again", AT_ONCE, 4, "not legal", at(10, AT_ONCE) + at(9, AT_ONCE, "start 0, ")),
+    ("one that is queued three times", THRICE, 4, "not legal", at(6, THRICE)),
     (
         "what is left was queued before it last ran, and since",
         TWICE,
