@@ -3,12 +3,11 @@
 random_recordings.py PROGRAM.
 
 Half of them are histories and half are traces, and each second one is spoiled in one place. What an event or a mark may follow is
-read off the lists of all that came before it, as the definitions do; no state is kept. Each refusal comes, and each cause but
-`never drained`, which has rows. A text that fails is made again from its number. Further texts go on behind the line that decides
-them: it is not waited for.
+read off the lists of all that came before it, as the definitions do; no state is kept. Each refusal comes, and of each event and
+each mark each cause. A text that fails is made again from its number. Further texts go on behind the line that decides them: it is
+not waited for.
 """
 import random
-import re
 import subprocess
 import sys
 import tempfile
@@ -203,13 +202,16 @@ class Recording(Language):
 
     def __init__(self):
         super().__init__()
-        self.told = []
+        # what was told, and which part of a rule was last seen to fail
+        self.told, self.broken = [], None
 
     def tell(self, it):
         """The cause why it may not come, or nothing and it is told."""
         cause = next((part for part in self.RULES[it.kind] if self.FAILS[part](self.told, it)), None)
         if cause is None:
             self.told.append(it)
+        else:
+            self.broken = f"{it.kind} {cause}"
         named = {"runs": self.runs, "next": self.waits}.get(cause, lambda _: [])(self.told)
         return " ".join([cause, *map(self.name, named[:1])]) if cause else None
 
@@ -285,14 +287,19 @@ def read(text):
     return language, ["legal"]
 
 
-def judged(text, drained=False):
-    """The status, and what is written on standard output and standard error."""
+def outcome(text, drained=False):
+    """The status, and what is written on standard output and standard error; and which part of a rule failed, if one did."""
     try:
         language, verdict = read(text)
     except Refused as refused:
-        return 1, "", f"{refused}\n"
+        return (1, "", f"{refused}\n"), None
     is_bad = verdict != ["legal"] or drained and language.left(language.told)
-    return 4 if is_bad else 0, language.report(verdict), ""
+    return (4 if is_bad else 0, language.report(verdict), ""), language.broken
+
+
+def judged(text, drained=False):
+    """The status, and what is written on standard output and standard error."""
+    return outcome(text, drained)[0]
 
 
 # Random texts.
@@ -316,6 +323,16 @@ def random_line(draws, kind, size):
     return draws.choice(owners + senders + [f"{seat} back {any_number} {draws.choice(WHYS)}"])
 
 
+def held_line(draws, language):
+    """What a sender does with a number that it holds, or nothing where none holds any."""
+    h = language.told
+    held = sorted({(e.sender, e.number) for e in h if e.kind == "Hold" and holds(h, e.sender, e.number)})
+    if not held:
+        return None
+    (seat, k), why = draws.choice(held), draws.choice(WHYS)
+    return draws.choice([f"{seat} push {language.name(k)}", f"{seat} back {language.name(k)} {why}"])
+
+
 def random_header(draws, kind):
     """A language that awaits what is behind its header, and the lines of that."""
     language = kind()
@@ -329,22 +346,27 @@ def random_header(draws, kind):
 
 
 def random_legal(draws, kind):
-    """The lines of a text whose verdict is `legal`."""
+    """The lines of a text whose verdict is `legal`; and lines that may not come, each with its place, by the part of a rule that fails."""
     language, lines = random_header(draws, kind)
-    wanted = len(lines) + draws.randrange(4, LINES)
+    wanted, refused = len(lines) + draws.randrange(4, LINES), {}
     for _ in range(3 * LINES):
-        line = random_line(draws, kind, language.size)
+        line = (draws.randrange(6) == 0 and held_line(draws, language)) or random_line(draws, kind, language.size)
         before = list(language.told)
         if any(language.tell(it) for it in language.line(line.split(" "))):
+            refused.setdefault(language.broken, []).append((len(lines), line))
             language.told = before
         else:
             lines.append(line)
         if len(lines) >= wanted:
             break
+    return language.size, lines, refused
+
+
+def pass_over(draws, lines):
+    """Puts in lines that are passed over."""
     for _ in range(draws.randrange(4)):
         passed_over = draws.choice(["", "#", "# x  y\t", "#" * 80, "#" * (LONGEST - 1), "#" * LONGEST])
         lines.insert(draws.randrange(1, len(lines) + 1), passed_over)
-    return language.size, lines
 
 
 STRANGE = ["", "x", "01", "+1", "4", "65536", "b0", "b01", "b16", "stop", "end", "o", "items", "senders", "barriers", "queue"]
@@ -352,9 +374,10 @@ STRANGE += [str(LAST), str(LAST + 1), "0 0", "0 1", "1 1", " "]
 EDGES = [(1, "items 0"), (1, "items 65537"), (2, "senders 0"), (2, "senders 65"), (3, "barriers 0"), (3, "barriers 17")]
 
 
-def spoil_line(draws, kind, size, lines):
-    """Another line at one place: none, a copy, two that change places, one too long, one with another word, or a random one."""
-    at, other, way = draws.randrange(len(lines)), draws.randrange(len(lines)), draws.randrange(16)
+def spoil_line(draws, kind, size, lines, refused):
+    """Another line at one place: none, a copy, two that change places, one too long, one with another word, a random one, or one that
+    may not come there."""
+    at, other, way = draws.randrange(len(lines)), draws.randrange(len(lines)), draws.randrange(24)
     if way < 2:
         del lines[at]
     elif way < 4:
@@ -371,18 +394,21 @@ def spoil_line(draws, kind, size, lines):
         place = draws.randrange(len(words))
         words[place] = draws.choice(STRANGE) if way < 10 else random_number(draws, size)
         lines[at] = " ".join(words)
-    else:
+    elif way < 16 or not refused:
         larger = {word: value + draws.randrange(2) for word, value in size.items()}
         lines.insert(draws.randrange(1, len(lines) + 1), random_line(draws, kind, larger))
+    else:
+        lines.insert(*draws.choice(refused[draws.choice(list(refused))]))
 
 
 def random_text(number):
     draws = random.Random(number)
     kind = (History, Trace)[number // 2 % 2]
-    size, lines = random_legal(draws, kind)
+    size, lines, refused = random_legal(draws, kind)
     by_line = number % 2 and draws.randrange(4)
     if by_line:
-        spoil_line(draws, kind, size, lines)
+        spoil_line(draws, kind, size, lines, refused)
+    pass_over(draws, lines)
     text = "".join(f"{line}\n" for line in lines).encode()
     return spoil_byte(draws, text) if number % 2 and not by_line else text
 
@@ -393,24 +419,23 @@ KINDS = {
     "history": "Size Version Cut Bytes Space Word Header Count Number Items Senders Barriers Sender Item Barrier".split(),
     "trace": "Size Version Cut Bytes Space Word Header Count Number Items Item".split(),
 }
-CAUSES = {
-    "history": ["pending", "idle", "not held", "closed", "draining", "not draining", "open", "runs", "nothing runs"]
-    + ["not waiting", "next", "not ended"],
-    "trace": ["pending", "runs", "nothing runs", "not waiting", "next"],
+# each part of each rule that may fail
+PARTS = {
+    kind: [f"{it} {part}" for it, parts in rules.items() for part in parts]
+    for kind, rules in (("history", EVENT_RULES), ("trace", MARK_RULES))
 }
 
 
 def wanting(seen):
     """The verdicts that came of no text."""
-    wanted = [(kind, it) for kind in KINDS for it in ["0", "4", *KINDS[kind], *CAUSES[kind]]]
+    wanted = [(kind, it) for kind in KINDS for it in ["0", "4", *KINDS[kind], *PARTS[kind]]]
     return [f"no {kind} of {it}" for kind, it in wanted if (kind, it) not in seen]
 
 
-def outcomes(kind, want):
-    """What is said of a text, in a word: its status, its kind of refusal, its cause."""
-    status, output, said = want
-    cause = re.search(r"\ncause (.*?)(?: b?\d+| stop)?\n", output)
-    return [(kind, it) for it in (str(status), said.strip().rpartition(" ")[2], cause[1] if cause else "")]
+def verdicts(kind, want, broken):
+    """What is said of a text, in a word: its status, its kind of refusal, the part of a rule that fails."""
+    status, _, said = want
+    return [(kind, it) for it in (str(status), said.strip().rpartition(" ")[2], broken)]
 
 
 def run(program, file, text, drained):
@@ -438,9 +463,9 @@ def main(program):
     with tempfile.TemporaryDirectory() as folder:
         for number in range(TEXTS):
             text, drained = random_text(number), number // 4 % 2
-            want = judged(text, drained)
+            want, broken = outcome(text, drained)
             got = run(program, Path(folder) / "text", text, drained)
-            seen.update(outcomes(("history", "trace")[number // 2 % 2], want))
+            seen.update(verdicts(("history", "trace")[number // 2 % 2], want, broken))
             faults += [f"text {number}: {got} and not {want}"] if got != want else []
     faults += wanting(seen) + [it for it in [fault_at_once(program, text) for text in GO_ON] if it]
     print("\n".join([*faults, f"random recordings: {TEXTS + len(GO_ON)} texts run, {len(faults)} not as wanted"]))
