@@ -213,7 +213,7 @@ impl Race<'_> {
     }
 }
 
-// Each sender of a channel has a clone of its own, as the channels are used; one that is shared would be no slower.
+// The senders of a channel share one handle, as they share each other queue, where a program may give each a clone of its own.
 fn main() {
     let words: Vec<String> = std::env::args().skip(1).collect();
     let numbers: Vec<u64> = words.iter().skip(1).filter_map(|word| word.parse().ok()).collect();
