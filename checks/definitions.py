@@ -1,11 +1,11 @@
 #!/usr/bin/env python3
 """Compares docs/DEFINITIONS.md with the contracts, and with the definitions that they cite.
 
-A word of a public contract is one that a file of crates/*/src imports from the specs of a crate of the repository and that stands
-in a `requires` or an `ensures` of a `pub fn`, of a function of a `pub trait`, or of one of a trait's `impl`. Each is to be
-defined in docs/DEFINITIONS.md: to stand there, in backquotes, in the first column of a table or at the beginning of a line, under
-a heading that names its crate, or in a row whose `File` does. And each word that is defined there is to be one of that crate's
-specs, in a file that the row names where its table has a column `File`.
+A word of a public contract is one that a file of crates/*/src imports from the specs of a crate of the repository, by itself or with
+its file, and that stands in a `requires` or an `ensures` of a `pub fn`, of a function of a `pub trait`, or of one of a trait's
+`impl`. Each is to be defined in docs/DEFINITIONS.md: to stand there, in backquotes, in the first column of a table or at the
+beginning of a line, under a heading that names its crate, or in a row whose `File` does. And each word that is defined there is to
+be one of that crate's specs, in a file that the row names where its table has a column `File`.
 
 Programs and tests are left out, since they promise nothing to a caller. The examples of users count: README.md says what
 their contracts say.
@@ -43,9 +43,15 @@ def home_of(crate, file, word):
 
 def imported(text):
     """Crate and word of what a file of code imports from definitions, and what it calls it, the types of the code itself left out."""
-    uses = re.findall(r"^\s*ghost use Rattle\.(\w+)\.specs\.(?!declared\b)([\w.]+)\.\{([^}]*)\};", text, re.M)
+    uses = re.findall(r"^\s*ghost use Rattle\.(\w+)\.specs\.(?!declared\b|contracts\b)([\w.]+)\.\{([^}]*)\};", text, re.M)
     split = [(crate, file, word.strip().partition(" as ")) for crate, file, words in uses if crate in CRATES for word in words.split(",")]
     return {(home_of(crate, file, word), word, name or word) for crate, file, (word, _, name) in split}
+
+
+def named(text):
+    """Crate, file and name of each file of definitions that a file of code imports whole, as `name.word`."""
+    uses = re.findall(r"^\s*ghost use Rattle\.(\w+)\.specs\.(?!declared\b|contracts\b)([\w.]+) as (\w+);", text, re.M)
+    return [it for it in uses if it[0] in CRATES]
 
 
 def clauses_of(lines, indent):
@@ -56,7 +62,9 @@ def clauses_of(lines, indent):
             break
         if clauses or re.match(r"\s*(requires|ensures)\b", line):
             clauses.append(line)
-        if line.endswith(";") or (not clauses and line.endswith(("{", "}"))):
+        # what a caller hands in for the proof alone stands before the clauses
+        is_ghost = re.match(r"\s*ghost\b", line)
+        if not is_ghost and (line.endswith(";") or (not clauses and line.endswith(("{", "}")))):
             break
     return clauses
 
@@ -66,7 +74,7 @@ def public_clauses(text):
     lines, item, clauses = text.splitlines(), "", []
     for number, line in enumerate(lines):
         item = line if re.match(r"\S", line) else item
-        function = re.match(r"(\s*)(pub )?((const|unsafe) )*fn ", line)
+        function = re.match(r'(\s*)(pub )?((const|unsafe|extern "C") )*fn ', line)
         if function and (function[2] or re.match(r"pub trait |impl\b.* for ", item)):
             clauses += clauses_of(lines[number:], function[1])
     return "\n".join(clauses)
@@ -83,6 +91,9 @@ def contract_words():
             for crate, word, name in imported(text):
                 if re.search(rf"(?<![\w.]){re.escape(name)}(?![\w?'])", clauses):
                     words[crate, word] = place
+            for crate, file, name in named(text):
+                for word in re.findall(rf"(?<![\w.]){name}\.(\w+)", clauses):
+                    words[home_of(crate, file, word), word] = place
     return words
 
 
