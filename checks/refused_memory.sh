@@ -5,6 +5,8 @@
 # the cases up to the one behind its last allocation. Then each of the fifteen threads that the examples want is refused in turn. With
 # --all the report is made anew, from 97 cases for each call. It wants a C compiler.
 set -euo pipefail
+# the order of `sort` that the report has, whatever the caller's locale
+export LC_ALL=C
 program=$(realpath "${1:?usage: checks/refused_memory.sh PROGRAM [--all]}")
 all=${2:-}
 cd "$(dirname "${BASH_SOURCE[0]}")"
