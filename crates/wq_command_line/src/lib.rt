@@ -2,7 +2,7 @@
 #![tactic(auto)]
 
 mod notice;
-mod rows;
+mod subcommands;
 mod task;
 
 pub use notice::Notice;

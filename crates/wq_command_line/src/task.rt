@@ -4,7 +4,7 @@ ghost use Rattle.wq_command_line.specs.declared.task.TaskKind.TheVariants.{Scrip
 ghost use Rattle.wq_command_line.specs.declared.task.Source.TheVariants.{Input};
 
 use crate::notice::Notice;
-use crate::rows::{DRAINED, HISTORY, command_line, kind_of};
+use crate::subcommands::{DRAINED, HISTORY, command_line, kind_of};
 use clap::Error;
 use std::alloc::Global;
 

@@ -4,7 +4,7 @@ use clap::{Arg, ArgAction, Command};
 use std::alloc::{AllocError, Global};
 
 /// A subcommand: its name, what it runs, what it does, what its file is, and what a text of it may hold.
-struct Row {
+struct SubcommandHelp {
     name: &'static str,
     kind: TaskKind,
     about: &'static str,
@@ -18,8 +18,8 @@ pub(crate) const DRAINED: &str = "drained";
 // The name of the flag that asks for the history of a schedule in place of its replies.
 pub(crate) const HISTORY: &str = "history";
 
-const ROWS: [Row; 4] = [
-    Row {
+const SUBCOMMANDS: [SubcommandHelp; 4] = [
+    SubcommandHelp {
         name: "script",
         kind: TaskKind::Script,
         about: "Runs a script of commands and prints what they answer",
@@ -39,7 +39,7 @@ queue too, which takes nothing new until a drain finds nothing left.
 Example:
   printf 'wq 1\\nitems 4\\nsenders 2\\nqueue 0 1\\nqueue 1 2\\nrun 9\\n' | wqrun script /dev/stdin",
     },
-    Row {
+    SubcommandHelp {
         name: "steps",
         kind: TaskKind::Steps,
         about: "Replays a schedule of atomic steps and prints what each is answered",
@@ -57,7 +57,7 @@ A schedule that begins with 'steps 2' has up to 65536 items, and the steps of a 
 Example:
   printf 'steps 1\\nitems 4\\nsenders 2\\n0 hold 1\\n0 look\\n0 link 1\\n0 push 1\\no take\\n' | wqrun steps /dev/stdin",
     },
-    Row {
+    SubcommandHelp {
         name: "live",
         kind: TaskKind::Live,
         about: "Runs queues by live threads and prints whether their books balance",
@@ -70,7 +70,7 @@ Fields: queues, 1 to 8; workers, 1 to 8, the threads that serve them; senders, 1
 Example:
   echo '{\"queues\":2,\"workers\":2,\"senders\":4,\"own\":64}' | wqrun live /dev/stdin",
     },
-    Row {
+    SubcommandHelp {
         name: "check",
         kind: TaskKind::Check,
         about: "Judges a recording of any ordered workqueue and prints what it found",
@@ -117,14 +117,14 @@ fn history<'a>(alloc: Global) -> Arg<'a> {
         )
 }
 
-// The command of a row.
-fn command_of<'a>(alloc: Global, row: &Row) -> Result<Command<'a>, AllocError> {
-    let file = Arg::new(alloc, "FILE").required(true).help(row.file);
-    let command = Command::new(alloc, row.name)
-        .about(row.about)
-        .after_help(row.more)
+// The command of a subcommand.
+fn command_of<'a>(alloc: Global, subcommand: &SubcommandHelp) -> Result<Command<'a>, AllocError> {
+    let file = Arg::new(alloc, "FILE").required(true).help(subcommand.file);
+    let command = Command::new(alloc, subcommand.name)
+        .about(subcommand.about)
+        .after_help(subcommand.more)
         .arg(file)?;
-    match row.kind {
+    match subcommand.kind {
         TaskKind::Check => command.arg(drained(alloc)),
         TaskKind::Steps => command.arg(history(alloc)),
         _ => Ok(command),
@@ -146,19 +146,19 @@ fn bare_command<'a>(alloc: Global) -> Command<'a> {
 // The command line that the program takes.
 pub(crate) fn command_line<'a>(alloc: Global) -> Result<Command<'a>, AllocError> {
     let mut command = bare_command(alloc);
-    for row in &ROWS {
-        command = command.subcommand(command_of(alloc, row)?)?;
+    for subcommand in &SUBCOMMANDS {
+        command = command.subcommand(command_of(alloc, subcommand)?)?;
     }
     Ok(command)
 }
 
 // What the subcommand of this name runs.
 pub(crate) fn kind_of(name: &str) -> TaskKind {
-    for row in &ROWS {
-        if row.name == name {
-            return row.kind;
+    for subcommand in &SUBCOMMANDS {
+        if subcommand.name == name {
+            return subcommand.kind;
         }
     }
-    // `clap` gives no other name than those of `ROWS`.
+    // `clap` gives no other name than those of `SUBCOMMANDS`.
     TaskKind::Script
 }
