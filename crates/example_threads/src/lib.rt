@@ -9,7 +9,7 @@ mod running;
 mod served;
 mod waking;
 
-pub use one_worker::{Runs, queue_and_destroy};
+pub use one_worker::{RunList, queue_and_destroy};
 pub use queueing::Told;
 pub use running::{Met, run};
-pub use served::{Served, Unserved, run_served};
+pub use served::{Destroyed, Unserved, run_served};

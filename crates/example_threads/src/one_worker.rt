@@ -12,12 +12,12 @@ use wq_worker::{Book, Follow, Ledger, Work, Worker};
 
 /// A work that keeps the list of what it ran, which contracts alone see, and asks for nothing to follow.
 #[derive(Drop)]
-pub struct Runs {
+pub struct RunList {
     /// The list of what it ran, which contracts alone see.
     pub ran: Trail,
 }
 
-impl Work for Runs {
+impl Work for RunList {
     ghost log = { λ w. w.ran.items };
 
     ghost may = { λ w k follow v. follow ≡ [] };
@@ -36,7 +36,7 @@ impl Work for Runs {
 pub fn queue_and_destroy(
     alloc: Global,
     layout: Layout,
-) -> Result<Option<(Runs, Book, Ledger)>, AllocError>
+) -> Result<Option<(RunList, Book, Ledger)>, AllocError>
     requires items { 2 ≤ layout.items }
     requires senders { 2 ≤ layout.senders }
     ensures layout { IfOk result (λ left. IfSome left (λ r. r.1.layout ≡ layout)) }
@@ -45,7 +45,7 @@ pub fn queue_and_destroy(
     ensures ran { IfOk result (λ left. IfSome left (λ r. r.0.ran.items ≡ items_among r.1.layout (accepted r.1.seen))) }
     ensures ledger { IfOk result (λ left. IfSome left (λ r. IsLedgerOf r.1.seen r.2)) }
 {
-    let work = Runs { ran: Trail::new() };
+    let work = RunList { ran: Trail::new() };
     let Ok((worker, mut senders)) = Worker::build(alloc, layout, work, 1) else {
         return Err(AllocError);
     };

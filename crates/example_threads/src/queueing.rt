@@ -23,7 +23,7 @@ pub struct Told {
 
 /// Two senders, with what each of them queued.
 #[derive(Drop)]
-pub(crate) struct Both {
+pub(crate) struct TwoSenders {
     pub(crate) first: Told,
     pub(crate) second: Told,
 }
@@ -78,7 +78,7 @@ pub(crate) fn queue_both<R: Threads + Wait + Sync>(
     second: Sender,
     each: u32,
     waker: &Waker,
-) -> Both
+) -> TwoSenders
     requires items { (each * 2 ≤ first.layout.items) × (each * 2 ≤ second.layout.items) }
     requires new { (first.seen ≡ []) × (second.seen ≡ []) }
     ensures first { QueuedAsTold first result.first }
@@ -95,7 +95,7 @@ pub(crate) fn queue_both<R: Threads + Wait + Sync>(
             ensures { QueuedAsTold second result }
         { queue_own(rt, second, each, each * 2, waker) },
     );
-    Both { first, second }
+    TwoSenders { first, second }
 }
 
 /// Queues the stop item, behind all that the sender queued.

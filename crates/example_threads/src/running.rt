@@ -7,7 +7,7 @@ ghost use Rattle.wq_live.specs.Known.{IsSame, new_sender, new_owner};
 ghost use Rattle.example_threads.specs.Met.{IsHistoryOf, QueuedAsTold};
 
 use crate::executing::execute_all;
-use crate::queueing::{Both, Told, queue_both, queue_own, stop};
+use crate::queueing::{Told, TwoSenders, queue_both, queue_own, stop};
 use crate::waking::{Waker, WakesOn, parker_and_waker};
 use crossbeam_utils::sync::Parker;
 use std::alloc::Global;
@@ -94,7 +94,7 @@ fn queue_all<R: Threads + Wait + Sync>(rt: &R, senders: Senders, each: u32, wake
             ensures { QueuedAsTold third result }
         { queue_own(rt, third, each * 2, each * 3, waker) },
     );
-    let Both { first, second } = both;
+    let TwoSenders { first, second } = both;
     Three {
         first,
         second,

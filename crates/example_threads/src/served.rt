@@ -10,8 +10,8 @@ ghost use Rattle.wq_worker.specs.Silent.{AddsNoNumber};
 ghost use Rattle.wq_worker.specs.State.{IsSameWorker, items_among};
 ghost use Rattle.example_threads.specs.Met.{TellsOwn, QueuedAsTold};
 
-use crate::one_worker::Runs;
-use crate::queueing::{Both, Told, queue_both, stop};
+use crate::one_worker::RunList;
+use crate::queueing::{Told, TwoSenders, queue_both, stop};
 use crate::waking::{Waker, WakesOn, parker_and_waker};
 use crossbeam_utils::sync::Parker;
 use std::alloc::{AllocError, Global};
@@ -25,9 +25,9 @@ use wq_worker::{Book, Ledger, Totals, Unbalanced, Unbuilt, Worker, nothing_is_as
 
 /// The work and the book of a queue that was destroyed, its two senders, which have met the book, and the sums of all counts.
 #[derive(Drop)]
-pub struct Served {
+pub struct Destroyed {
     /// The work, with the list of what it ran.
-    pub work: Runs,
+    pub work: RunList,
     /// The book, with the whole history of the queue, which contracts alone see.
     pub book: Book,
     /// The sender 0, and what it queued.
@@ -58,8 +58,8 @@ impl From<AllocError> for Unserved {
     }
 }
 
-impl From<Unbuilt<Runs>> for Unserved {
-    fn from(_unbuilt: Unbuilt<Runs>) -> Unserved {
+impl From<Unbuilt<RunList>> for Unserved {
+    fn from(_unbuilt: Unbuilt<RunList>) -> Unserved {
         Unserved::Memory
     }
 }
@@ -71,21 +71,21 @@ fn queue_and_stop<R: Threads + Wait + Sync>(
     second: Sender,
     each: u32,
     waker: &Waker,
-) -> Both
+) -> TwoSenders
     requires items { (each * 2 ≤ first.layout.items) × (each * 2 ≤ second.layout.items) }
     requires new { (first.seen ≡ []) × (second.seen ≡ []) }
     ensures first { QueuedAsTold first result.first }
     ensures second { QueuedAsTold second result.second }
 {
-    let Both { first, second } = queue_both(rt, first, second, each, waker);
-    Both {
+    let TwoSenders { first, second } = queue_both(rt, first, second, each, waker);
+    TwoSenders {
         first,
         second: stop(second, waker),
     }
 }
 
 /// Serves until the stop item ran. The worker queues nothing, since its work asks for nothing.
-fn serve<R: Wait>(rt: &R, mut worker: Worker<Runs>, parker: &Parker) -> Worker<Runs>
+fn serve<R: Wait>(rt: &R, mut worker: Worker<RunList>, parker: &Parker) -> Worker<RunList>
     requires open { ¬ IsShut worker.seen }
     requires idle { ¬ IsRunning worker.seen }
     ensures same { IsSameWorker worker result }
@@ -93,7 +93,7 @@ fn serve<R: Wait>(rt: &R, mut worker: Worker<Runs>, parker: &Parker) -> Worker<R
     ensures silent { AddsNoNumber worker.number worker.seen result.seen }
 {
     worker.legal();
-    nothing_is_asked::<Worker<Runs>>();
+    nothing_is_asked::<Worker<RunList>>();
     worker.serve(rt, parker);
     worker
 }
@@ -108,14 +108,14 @@ fn balance(book: &Book, one: Ledger, other: Ledger) -> Result<Totals, Unbalanced
 }
 
 /// Destroys a worker of which nothing runs. It queues nothing by that, since its work asks for nothing.
-fn destroy(worker: Worker<Runs>) -> Result<(Runs, Book), Unserved>
+fn destroy(worker: Worker<RunList>) -> Result<(RunList, Book), Unserved>
     requires idle { ¬ IsRunning worker.seen }
     ensures same { IfOk result (λ r. (r.1.queue ≡ worker.queue) × (r.1.layout ≡ worker.layout)) }
     ensures ran { IfOk result (λ r. r.0.ran.items ≡ items_among r.1.layout (accepted r.1.seen)) }
     ensures silent { IfOk result (λ r. AddsNoNumber worker.number worker.seen r.1.seen) }
 {
     worker.legal();
-    nothing_is_asked::<Worker<Runs>>();
+    nothing_is_asked::<Worker<RunList>>();
     match worker.destroy(u32::MAX) {
         Ok(parts) => Ok(parts),
         Err(unfinished) => Err(Unserved::Left(unfinished.left)),
@@ -123,7 +123,7 @@ fn destroy(worker: Worker<Runs>) -> Result<(Runs, Book), Unserved>
 }
 
 /// Destroys a worker that has served. Its senders meet the book, which then balances.
-fn finish(worker: Worker<Runs>, mut first: Told, mut second: Told) -> Result<Served, Unserved>
+fn finish(worker: Worker<RunList>, mut first: Told, mut second: Told) -> Result<Destroyed, Unserved>
     requires number { worker.number ≡ 2 }
     requires idle { ¬ IsRunning worker.seen }
     requires of_worker { accepted (own 2 worker.seen) ≡ [] }
@@ -149,7 +149,7 @@ fn finish(worker: Worker<Runs>, mut first: Told, mut second: Told) -> Result<Ser
     let other = book.meet(&mut second.sender);
     book.legal();
     let totals = balance(&book, one, other)?;
-    Ok(Served {
+    Ok(Destroyed {
         work,
         book,
         first,
@@ -161,13 +161,13 @@ fn finish(worker: Worker<Runs>, mut first: Told, mut second: Told) -> Result<Ser
 /// The worker serves in a thread, and beside it the senders queue in theirs. When both have ended, the stop item follows.
 fn serve_beside<R: Threads + Wait + Sync>(
     rt: &R,
-    worker: Worker<Runs>,
+    worker: Worker<RunList>,
     first: Sender,
     second: Sender,
     each: u32,
     parker: Parker,
     waker: &Waker,
-) -> (Worker<Runs>, Both)
+) -> (Worker<RunList>, TwoSenders)
     requires items { each * 2 ≤ worker.layout.items }
     requires open { ¬ IsShut worker.seen }
     requires idle { ¬ IsRunning worker.seen }
@@ -202,7 +202,7 @@ pub fn run_served<R: Threads + Wait + Sync>(
     alloc: Global,
     layout: Layout,
     each: u32,
-) -> Result<Served, Unserved>
+) -> Result<Destroyed, Unserved>
     requires items { each * 2 ≤ layout.items }
     requires senders { layout.senders ≡ 3 }
     ensures layout { IfOk result (λ r. r.book.layout ≡ layout) }
@@ -220,7 +220,7 @@ pub fn run_served<R: Threads + Wait + Sync>(
     ensures balance { IfOk result (λ r. r.totals.queued + r.totals.chained ≡ r.totals.executed) }
 {
     let (parker, waker) = parker_and_waker(alloc, WakesOn::EmptyList)?;
-    let work = Runs { ran: Trail::new() };
+    let work = RunList { ran: Trail::new() };
     let (worker, mut senders) = Worker::build(alloc, layout, work, 1)?;
     let Some(second) = senders.pop() else {
         unreachable!()
