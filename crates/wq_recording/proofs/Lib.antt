@@ -1,6 +1,6 @@
 pub mod Common
 pub mod LineBytes
-pub mod Entries
+pub mod LineEvents
 pub mod Writing
 pub mod Stages
 pub mod LineParts

@@ -17,7 +17,7 @@ use Rattle.wq_text.specs.declared.fault.ParseError.TheVariants as parse_errors
 use Rattle.wq_text.specs.declared.fault.Kind.TheVariants as kind
 use Rattle.wq_text.specs.declared.header.Stage.TheVariants as stage
 use Rattle.wq_recording.specs.declared.finding.Finding.{Finding}
-use Rattle.wq_recording.specs.declared.judging.Told.TheVariants.{Stop as ToldStop}
+use Rattle.wq_recording.specs.declared.judging.LineOutcome.TheVariants.{Stop as OutcomeStop}
 use Rattle.wq_recording.specs.Lines.{EndsWithLf, IsLineRead}
 use Rattle.wq_recording.specs.VerdictText.{verdict_of, SaysOf, Finds}
 use Rattle.wq_recording.proofs.LastLine.{last_long}
@@ -240,7 +240,7 @@ module _ {A E C : Type 0} (inner : Lines A) (rules : Rules A E) (layout_of : C �
 
     pub reads_stop : (next : Stage) (asked : Option A) (stop : Stop) (layout : Layout) (new : Option C) (finding : Finding) (t : List ℕ)
         → line ≡ t ++ 10 ∷ [] → inner s t ≡ Ok (next, asked) → stop.line ≡ n
-        → ComesTo rules layout_of after next checker asked (ToldStop layout stop.cause) new
+        → ComesTo rules layout_of after next checker asked (OutcomeStop layout stop.cause) new
         → ((c : C) (h : List E) → after c h → rules.IsLegal (layout_of c) h)
         → ((h : List E) → HasTold after new h → SaysOf rules (verdict_of layout h (Some stop)) finding)
         → Reads known n s checker line left → IfSome known (λ text. Finds (short_line inner) rules text finding)

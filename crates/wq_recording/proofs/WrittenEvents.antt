@@ -23,11 +23,11 @@ use Rattle.wq_text.specs.Header.{is_header, header_line_gives}
 use Rattle.wq_text.specs.Line.{asking_line}
 use Rattle.wq_text.specs.Turn.{number_of_queue, barrier_or_item, after_b, seat_and_number, nth_word, why_at, cause_at}
 use Rattle.wq_text.specs.Word.{spelled_number, without_first}
-use Rattle.wq_recording.specs.declared.entry.Entry.{Entry}
-use Rattle.wq_recording.specs.declared.history_words.Telling.{Telling}
-use Rattle.wq_recording.specs.declared.history_words.Telling.TheVariants as telling
+use Rattle.wq_recording.specs.declared.line_events.LineEvents.{LineEvents}
+use Rattle.wq_recording.specs.declared.history_words.HistoryWord.{HistoryWord}
+use Rattle.wq_recording.specs.declared.history_words.HistoryWord.TheVariants as history_word
 use Rattle.wq_recording.specs.Checking.{history_line}
-use Rattle.wq_recording.specs.History.{alone, IsEventOf, owners_telling, senders_telling, telling_at, numbers_give, entry_of, entry_gives, history_grammar}
+use Rattle.wq_recording.specs.History.{alone, IsEventOf, owners_word, senders_word, history_word_at, numbers_give, line_events_of, events_given, history_grammar}
 use Rattle.wq_recording.specs.HistoryText.{event_text, sender_text}
 use Rattle.wq_recording.proofs.LineParts.{HasNoLf}
 use Rattle.wq_recording.proofs.WrittenWords.{IsShortWord, AreShortWords, literal, all_digits, few_digits, decimal_word, spaced, spaced_no_lf, spaced_line}
@@ -112,30 +112,30 @@ module _ (l : Layout) (k : ℕ) where
       (decimal_word k (omega (arith, lt, l.in_limits.0.1)), below_reads kind.Item l.items k lt (omega (arith, l.in_limits.0.1)))
 
 -- a line that holds no LF, and what it gives
-abbrev pub IsWritten : Stage → Stage → Option Entry → List ℕ → Type 0
+abbrev pub IsWritten : Stage → Stage → Option LineEvents → List ℕ → Type 0
 IsWritten s next one t = HasNoLf t × (history_line s t ≡ Ok (next, one))
 
 module _ (l : Layout) where
   abbrev Tells : List ℕ → Event → Type 0
   Tells t e = IsWritten (stage.Commands l) (stage.Commands l) (Some (alone e)) t
 
-  abbrev asked : Entry → Stage × Option Entry
+  abbrev asked : LineEvents → Stage × Option LineEvents
   asked one = (stage.Commands l, Some one)
 
-  line_tells : (w : List ℕ) (ws : List (List ℕ)) (t : Telling) (e : Event) → IsShortWord w → AreShortWords ws → length ws ≤ 3
-      → is_header w ≡ false → telling_at w ws ≡ Some t → entry_gives l t w (without_first ws) ≡ Ok (alone e) → Tells (spaced w ws) e
+  line_tells : (w : List ℕ) (ws : List (List ℕ)) (t : HistoryWord) (e : Event) → IsShortWord w → AreShortWords ws → length ws ≤ 3
+      → is_header w ≡ false → history_word_at w ws ≡ Some t → events_given l t w (without_first ws) ≡ Ok (alone e) → Tells (spaced w ws) e
   line_tells w ws t e short all few first name gives = (
     spaced_no_lf w ws short all,
     spaced_line w ws short all history_grammar (stage.Commands l) few refl
         ∙ ap
         (λ b. if b then of_one (λ (next : Stage). (next, None)) (header_line_gives history_grammar.names_seats history_grammar.most (stage.Commands l) w ws)
         else asking_line history_grammar (stage.Commands l) w ws) first
-        ∙ ap (λ (o : Option Telling). found kind.Word o >>= λ n. of_one asked (entry_gives l n w (without_first ws))) name
+        ∙ ap (λ (o : Option HistoryWord). found kind.Word o >>= λ n. of_one asked (events_given l n w (without_first ws))) name
         ∙ ap (of_one asked) gives,
   )
 
-  owner_tells : (ws : List (List ℕ)) (t : Telling) (e : Event) → AreShortWords ws → length ws ≤ 3
-      → telling_at (codes "o") ws ≡ Some t → entry_gives l t (codes "o") (without_first ws) ≡ Ok (alone e) → Tells (spaced (codes "o") ws) e
+  owner_tells : (ws : List (List ℕ)) (t : HistoryWord) (e : Event) → AreShortWords ws → length ws ≤ 3
+      → history_word_at (codes "o") ws ≡ Some t → events_given l t (codes "o") (without_first ws) ≡ Ok (alone e) → Tells (spaced (codes "o") ws) e
   owner_tells ws t e all few name gives = line_tells (codes "o") ws t e (literal (codes "o") refl) all few refl name gives
 
   module _ (s k : ℕ) (seat : s < l.senders) (lt : k < number_count l) where
@@ -151,21 +151,21 @@ module _ (l : Layout) where
     not_header : is_header (decimal s) ≡ false
     not_header = rw (no_digits s (codes "items") small refl, no_digits s (codes "senders") small refl, no_digits s (codes "barriers") small refl) refl
 
-    sender_tells : (ws : List (List ℕ)) (t : Telling) (e : Event) → AreShortWords ws → length ws ≤ 3
-        → telling_at (decimal s) ws
-        ≡ (if bytes_eq (decimal s) (codes "o") then owners_telling (nth_word 0 ws) else senders_telling (nth_word 0 ws) (nth_word (length ws - 1) ws))
-        → senders_telling (nth_word 0 ws) (nth_word (length ws - 1) ws) ≡ Some t → entry_gives l t (decimal s) (without_first ws) ≡ Ok (alone e)
+    sender_tells : (ws : List (List ℕ)) (t : HistoryWord) (e : Event) → AreShortWords ws → length ws ≤ 3
+        → history_word_at (decimal s) ws
+        ≡ (if bytes_eq (decimal s) (codes "o") then owners_word (nth_word 0 ws) else senders_word (nth_word 0 ws) (nth_word (length ws - 1) ws))
+        → senders_word (nth_word 0 ws) (nth_word (length ws - 1) ws) ≡ Some t → events_given l t (decimal s) (without_first ws) ≡ Ok (alone e)
         → Tells (spaced (decimal s) ws) e
     sender_tells ws t e all few by_first told gives =
         line_tells (decimal s) ws t e (decimal_word s small) all few not_header
         (by_first
-        ∙ ap (λ b. if b then owners_telling (nth_word 0 ws) else senders_telling (nth_word 0 ws) (nth_word (length ws - 1) ws))
+        ∙ ap (λ b. if b then owners_word (nth_word 0 ws) else senders_word (nth_word 0 ws) (nth_word (length ws - 1) ws))
         (no_digits s (codes "o") small refl)
         ∙ told) gives
 
     -- a line of three words, and of four
-    three_tell : (word : List ℕ) (t : Telling) (e : Event) → IsShortWord word → senders_telling word (name_of l k) ≡ Some t
-        → entry_gives l t (decimal s) (name_of l k ∷ []) ≡ Ok (alone e) → Tells (sender_text l s (32 ∷ word) k) e
+    three_tell : (word : List ℕ) (t : HistoryWord) (e : Event) → IsShortWord word → senders_word word (name_of l k) ≡ Some t
+        → events_given l t (decimal s) (name_of l k ∷ []) ≡ Ok (alone e) → Tells (sender_text l s (32 ∷ word) k) e
     three_tell word t e short told gives =
         let P : List ℕ → Type 0 = λ t. Tells t e in
         subst P (sym (append_assoc (decimal s) (32 ∷ word) (named l k)))
@@ -173,10 +173,10 @@ module _ (l : Layout) where
 
     back_tells : (cause : Why) (word : List ℕ) → IsShortWord word → why_at word ≡ Some cause → why_text cause ≡ 32 ∷ word
         → Tells (event_text l (event.Back s k cause)) (event.Back s k cause)
-    unfolding senders_telling numbers_give entry_of
+    unfolding senders_word numbers_give line_events_of
     back_tells cause word short told written =
-        let tells = sender_tells (codes "back" ∷ name_of l k ∷ word ∷ []) (telling.Back cause) (event.Back s k cause)
-        (literal (codes "back") refl, ((named_number l k lt).0, (short, tt))) (omega arith) refl (ap (option_map telling.Back) told)
+        let tells = sender_tells (codes "back" ∷ name_of l k ∷ word ∷ []) (history_word.Back cause) (event.Back s k cause)
+        (literal (codes "back") refl, ((named_number l k lt).0, (short, tt))) (omega arith) refl (ap (option_map history_word.Back) told)
         (ap (of_two (λ s k. alone (event.Back s k cause))) seat_read) in
         let front = codes " back" ++ named l k in
         let P : List ℕ → Type 0 = λ t. Tells t (event.Back s k cause) in
@@ -186,38 +186,39 @@ module _ (l : Layout) where
         subst P (sym text) tells
 
 pub written_event : (l : Layout) (e : Event) → IsEventOf l e → Tells l (event_text l e) e
-unfolding owners_telling senders_telling numbers_give entry_of why_at cause_at
+unfolding owners_word senders_word numbers_give line_events_of why_at cause_at
 written_event l (event.Hold s k) is =
-    three_tell l s k is.0 is.1 (codes "hold") telling.Hold (event.Hold s k) (literal (codes "hold") refl) refl
+    three_tell l s k is.0 is.1 (codes "hold") history_word.Hold (event.Hold s k) (literal (codes "hold") refl) refl
     (ap (of_two (λ s k. alone (event.Hold s k))) (seat_read l s k is.0 is.1))
 written_event l (event.Busy s k) is =
-    three_tell l s k is.0 is.1 (codes "busy") telling.Busy (event.Busy s k) (literal (codes "busy") refl) refl
+    three_tell l s k is.0 is.1 (codes "busy") history_word.Busy (event.Busy s k) (literal (codes "busy") refl) refl
     (ap (of_two (λ s k. alone (event.Busy s k))) (seat_read l s k is.0 is.1))
 written_event l (event.Push s k) is =
-    three_tell l s k is.0 is.1 (codes "push") telling.Push (event.Push s k) (literal (codes "push") refl) refl
+    three_tell l s k is.0 is.1 (codes "push") history_word.Push (event.Push s k) (literal (codes "push") refl) refl
     (ap (of_two (λ s k. alone (event.Push s k))) (seat_read l s k is.0 is.1))
 written_event l (event.Back s k why.Closed) is = back_tells l s k is.0 is.1 why.Closed (codes "closed") (literal (codes "closed") refl) refl refl
 written_event l (event.Back s k why.Contended) is = back_tells l s k is.0 is.1 why.Contended (codes "contended") (literal (codes "contended") refl) refl refl
 written_event l (event.Back s k why.Cancelled) is = back_tells l s k is.0 is.1 why.Cancelled (codes "cancelled") (literal (codes "cancelled") refl) refl refl
 written_event l (event.Back s k why.Draining) is = back_tells l s k is.0 is.1 why.Draining (codes "draining") (literal (codes "draining") refl) refl refl
-written_event l event.Take is = owner_tells l (codes "take" ∷ []) telling.Take event.Take (literal (codes "take") refl, tt) (omega arith) refl refl
-written_event l event.Close is = owner_tells l (codes "close" ∷ []) telling.Close event.Close (literal (codes "close") refl, tt) (omega arith) refl refl
-written_event l event.Drain is = owner_tells l (codes "drain" ∷ []) telling.Drain event.Drain (literal (codes "drain") refl, tt) (omega arith) refl refl
-written_event l event.Resume is = owner_tells l (codes "resume" ∷ []) telling.Resume event.Resume (literal (codes "resume") refl, tt) (omega arith) refl refl
-written_event l event.Rest is = owner_tells l (codes "rest" ∷ []) telling.Rest event.Rest (literal (codes "rest") refl, tt) (omega arith) refl refl
+written_event l event.Take is = owner_tells l (codes "take" ∷ []) history_word.Take event.Take (literal (codes "take") refl, tt) (omega arith) refl refl
+written_event l event.Close is = owner_tells l (codes "close" ∷ []) history_word.Close event.Close (literal (codes "close") refl, tt) (omega arith) refl refl
+written_event l event.Drain is = owner_tells l (codes "drain" ∷ []) history_word.Drain event.Drain (literal (codes "drain") refl, tt) (omega arith) refl refl
+written_event l event.Resume is =
+    owner_tells l (codes "resume" ∷ []) history_word.Resume event.Resume (literal (codes "resume") refl, tt) (omega arith) refl refl
+written_event l event.Rest is = owner_tells l (codes "rest" ∷ []) history_word.Rest event.Rest (literal (codes "rest") refl, tt) (omega arith) refl refl
 written_event l (event.Begin k) is =
     let n = named_number l k is.1 in
-    owner_tells l (codes "begin" ∷ name_of l k ∷ []) telling.Begin (event.Begin k) (literal (codes "begin") refl, (n.0, tt)) (omega arith) refl
-    (ap (λ told. of_two (entry_of telling.Begin) (of_one (λ k. (0, k)) told)) n.1)
+    owner_tells l (codes "begin" ∷ name_of l k ∷ []) history_word.Begin (event.Begin k) (literal (codes "begin") refl, (n.0, tt)) (omega arith) refl
+    (ap (λ told. of_two (line_events_of history_word.Begin) (of_one (λ k. (0, k)) told)) n.1)
 written_event l (event.End k) is =
     let n = named_number l k is.1 in
-    owner_tells l (codes "end" ∷ name_of l k ∷ []) telling.End (event.End k) (literal (codes "end") refl, (n.0, tt)) (omega arith) refl
-    (ap (λ told. of_two (entry_of telling.End) (of_one (λ k. (0, k)) told)) n.1)
+    owner_tells l (codes "end" ∷ name_of l k ∷ []) history_word.End (event.End k) (literal (codes "end") refl, (n.0, tt)) (omega arith) refl
+    (ap (λ told. of_two (line_events_of history_word.End) (of_one (λ k. (0, k)) told)) n.1)
 written_event l (event.Chain k) is =
     let n = named_item l k is.1 in
-    owner_tells l (codes "chain" ∷ name_of l k ∷ []) telling.Chain (event.Chain k) (literal (codes "chain") refl, (n.0, tt)) (omega arith) refl
-    (ap (λ told. of_two (entry_of telling.Chain) (of_one (λ k. (0, k)) told)) n.1)
+    owner_tells l (codes "chain" ∷ name_of l k ∷ []) history_word.Chain (event.Chain k) (literal (codes "chain") refl, (n.0, tt)) (omega arith) refl
+    (ap (λ told. of_two (line_events_of history_word.Chain) (of_one (λ k. (0, k)) told)) n.1)
 written_event l (event.ChainBusy k) is =
     let n = named_item l k is.1 in
-    owner_tells l (codes "busy" ∷ name_of l k ∷ []) telling.ChainBusy (event.ChainBusy k) (literal (codes "busy") refl, (n.0, tt)) (omega arith) refl
-    (ap (λ told. of_two (entry_of telling.ChainBusy) (of_one (λ k. (0, k)) told)) n.1)
+    owner_tells l (codes "busy" ∷ name_of l k ∷ []) history_word.ChainBusy (event.ChainBusy k) (literal (codes "busy") refl, (n.0, tt)) (omega arith) refl
+    (ap (λ told. of_two (line_events_of history_word.ChainBusy) (of_one (λ k. (0, k)) told)) n.1)

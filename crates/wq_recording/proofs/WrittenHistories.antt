@@ -15,9 +15,9 @@ use Rattle.wq_text.specs.declared.fault.Kind.TheVariants as kind
 use Rattle.wq_text.specs.declared.header.Stage.TheVariants as stage
 use Rattle.wq_text.specs.Fault.{◌>>=◌, of_one}
 use Rattle.wq_text.specs.Header.{awaits, behind_items, header_gives, limited}
-use Rattle.wq_recording.specs.declared.entry.Entry.{Entry}
+use Rattle.wq_recording.specs.declared.line_events.LineEvents.{LineEvents}
 use Rattle.wq_recording.specs.Checking.{history_line, trace_line, is_trace, begins_as_trace}
-use Rattle.wq_recording.specs.History.{alone, entry_events, IsEventOf, history_grammar}
+use Rattle.wq_recording.specs.History.{alone, events_of_line, IsEventOf, history_grammar}
 use Rattle.wq_recording.specs.HistoryReport.{history_rules}
 use Rattle.wq_recording.specs.HistoryText.{event_text, event_lines, history_text}
 use Rattle.wq_recording.specs.ReadBack.{IsLegalAsText, IsFoundLegal, IsNeverRefused}
@@ -45,7 +45,7 @@ module _ (l : Layout) where
   abbrev l_senders : Layout
   l_senders = layout_of_numbers l.items 1 l.senders (l.in_limits.0, (omega arith, omega arith), l.in_limits.2)
 
-  abbrev alone_stage : Stage → Stage × Option Entry
+  abbrev alone_stage : Stage → Stage × Option LineEvents
   alone_stage next = (next, None)
 
   items_line : IsWritten stage.Items (stage.Senders l_items) None (counted (codes "items") l.items)
@@ -91,25 +91,25 @@ version_line = (spaced_no_lf (codes "history") (codes "1" ∷ []) (literal (code
 
 -- a line further
 module _ (text : List ℕ) where
-  abbrev Reads : List ℕ → ℕ → Stage → List Entry → Type 0
+  abbrev Reads : List ℕ → ℕ → Stage → List LineEvents → Type 0
   Reads rest n s asked = IsReadTo history_line text rest n s asked
 
   cut : (t rest : List ℕ) → HasNoLf t → parts (line t ++ rest) ≡ t ∷ parts rest
   cut t rest none = ap parts (append_assoc t (10 ∷ []) rest) ∙ parts_line t rest none
 
-  step : (t rest : List ℕ) (n : ℕ) (s next : Stage) (one : Option Entry) (asked : List Entry) → IsWritten s next one t
+  step : (t rest : List ℕ) (n : ℕ) (s next : Stage) (one : Option LineEvents) (asked : List LineEvents) → IsWritten s next one t
       → Reads (line t ++ rest) n s asked → Reads rest (n + 1) next (asked ++ option_to_list one)
   step t rest n s next one asked written read =
       read_more history_line text (line t ++ rest) t rest n s next asked (asked ++ option_to_list one) one read (cut t rest written.0) written.1 refl
 
-  all_read : (l : Layout) (h : List Event) (n : ℕ) (asked : List Entry) → All (IsEventOf l) h → Reads (event_lines l h) n (stage.Commands l) asked
+  all_read : (l : Layout) (h : List Event) (n : ℕ) (asked : List LineEvents) → All (IsEventOf l) h → Reads (event_lines l h) n (stage.Commands l) asked
       → (m : ℕ) × Reads [] m (stage.Commands l) (asked ++ map alone h)
-  all_read l [] n asked of read = (n, subst (λ (a : List Entry). Reads [] n (stage.Commands l) a) (sym (append-nil asked)) read)
+  all_read l [] n asked of read = (n, subst (λ (a : List LineEvents). Reads [] n (stage.Commands l) a) (sym (append-nil asked)) read)
   all_read l (e ∷ h) n asked of read =
       let s = stage.Commands l in
       let one = step (event_text l e) (event_lines l h) n s s (Some (alone e)) asked (written_event l e (All-head (IsEventOf l) e h of)) read in
       let more = all_read l h (n + 1) (asked ++ alone e ∷ []) (All-tail (IsEventOf l) e h of) one in
-      (more.0, subst (λ (a : List Entry). Reads [] more.0 s a) (append_assoc asked (alone e ∷ []) (map alone h)) more.1)
+      (more.0, subst (λ (a : List LineEvents). Reads [] more.0 s a) (append_assoc asked (alone e ∷ []) (map alone h)) more.1)
 
 module _ (l : Layout) (h : List Event) where
   abbrev behind_version : List ℕ
@@ -146,7 +146,7 @@ module _ (l : Layout) (h : List Event) where
       let all = all_read text l h 5 [] of four in
       (all.0, record { before = all.1.before; split = all.1.split; leads = all.1.leads; number = all.1.number })
 
-told_again : (h : List Event) → h ≡ flat_map entry_events (map alone h)
+told_again : (h : List Event) → h ≡ flat_map events_of_line (map alone h)
 told_again [] = refl
 told_again (e ∷ h) = ap (λ g. e ∷ g) (told_again h)
 

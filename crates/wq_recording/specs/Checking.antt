@@ -5,7 +5,7 @@ use Rattle.wq_check.specs.declared.mark.Mark.{Mark}
 use Rattle.wq_text.specs.declared.fault.ScriptError.{ScriptError}
 use Rattle.wq_text.specs.Line.{Lines}
 use Rattle.wq_text.specs.Word.{parts}
-use Rattle.wq_recording.specs.declared.entry.Entry.{Entry}
+use Rattle.wq_recording.specs.declared.line_events.LineEvents.{LineEvents}
 use Rattle.wq_recording.specs.declared.finding.Finding.{Finding}
 use Rattle.wq_recording.specs.History.{history_grammar}
 use Rattle.wq_recording.specs.HistoryReport.{history_rules}
@@ -17,7 +17,7 @@ use Rattle.wq_recording.specs.Verdict.{is_short, recording_line, IsRefusedText}
 use Rattle.wq_recording.specs.VerdictText.{Finds}
 
 -- a line of a history, and one of a trace
-abbrev pub history_line : Lines Entry
+abbrev pub history_line : Lines LineEvents
 history_line = recording_line history_grammar
 
 abbrev pub trace_line : Lines Mark

@@ -9,8 +9,8 @@ use Rattle.wq_check.specs.Causes.{HasEventError}
 use Rattle.wq_check.specs.Left.{left}
 use Rattle.wq_check.specs.Report.{report_of}
 use Rattle.wq_meaning.specs.Report.{line, count_line}
-use Rattle.wq_recording.specs.declared.entry.Entry.{Entry}
-use Rattle.wq_recording.specs.History.{entry_events}
+use Rattle.wq_recording.specs.declared.line_events.LineEvents.{LineEvents}
+use Rattle.wq_recording.specs.History.{events_of_line}
 use Rattle.wq_recording.specs.Verdict.{Rules}
 
 -- the lines of what is counted
@@ -29,9 +29,9 @@ history_counts r =
     event_count_lines r ++ line (if r.closed then codes "closed yes" else codes "closed no")
     ++ line (if r.complete then codes "complete yes" else codes "complete no")
 
-abbrev pub history_rules : Rules Entry Event
+abbrev pub history_rules : Rules LineEvents Event
 history_rules = record {
-  tells = entry_events;
+  tells = events_of_line;
   IsLegal = IsLegal;
   HasCause = λ layout h e cause. HasEventError layout h e (NotAllowed cause);
   word = codes "event";

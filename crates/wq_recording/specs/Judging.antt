@@ -12,8 +12,8 @@ use Rattle.wq_text.specs.declared.header.Stage.TheVariants.{Commands}
 use Rattle.wq_text.specs.Fault.{RefusedFor}
 use Rattle.wq_recording.specs.declared.error.CheckError.{CheckError}
 use Rattle.wq_recording.specs.declared.error.CheckError.TheVariants as errors
-use Rattle.wq_recording.specs.declared.judging.Told.{Told}
-use Rattle.wq_recording.specs.declared.judging.Told.TheVariants.{On, Stop}
+use Rattle.wq_recording.specs.declared.judging.LineOutcome.{LineOutcome}
+use Rattle.wq_recording.specs.declared.judging.LineOutcome.TheVariants.{On, Stop}
 use Rattle.wq_recording.specs.Recording.{StopsAmong}
 use Rattle.wq_recording.specs.Verdict.{Rules}
 
@@ -32,7 +32,7 @@ TellsAll {A} {E} {C} rules after asked old new =
     (h : List E) → HasTold after old h → HasTold after new (h ++ flat_map rules.tells (option_to_list asked))
 
 -- what comes of telling it: the stage and the new checker behind it, or its first event that is not legal
-abbrev pub ComesTo : {A E C : Type 0} → Rules A E → (C → Layout) → (C → List E → Type 0) → Stage → Option C → Option A → Told → Option C → Type 0
+abbrev pub ComesTo : {A E C : Type 0} → Rules A E → (C → Layout) → (C → List E → Type 0) → Stage → Option C → Option A → LineOutcome → Option C → Type 0
 ComesTo rules layout_of after next old asked (On s) new = (s ≡ next) × IsMadeAt layout_of next new × TellsAll rules after asked old new
 ComesTo {A} {E} {C} rules layout_of after next old asked (Stop layout cause) new =
     (next ≡ Commands layout) × IsSomeAnd new (λ c. (layout_of c ≡ layout) × ((a : A) × (asked ≡ Some a)

@@ -1,7 +1,7 @@
 pub mod History
 pub mod Trace
 pub mod Lines
-pub mod Parts
+pub mod LineOrRest
 pub mod Verdict
 pub mod VerdictText
 pub mod Recording

@@ -7,10 +7,10 @@ ghost use Rattle.wq_recording.specs.Checking.{IsFoundOf, IsRefusedFor, IsReadThr
 
 use crate::error::CheckError;
 use crate::finding::Finding;
-use crate::history::Entries;
+use crate::history::HistoryLanguage;
 use crate::judging::judge;
-use crate::lines::{Part, next_line, part_of};
-use crate::trace::Marks;
+use crate::lines::{LineOrRest, line_or_rest, next_line};
+use crate::trace::TraceLanguage;
 use std::alloc::Global;
 use std::io::BufRead;
 use wq_text::Language;
@@ -20,9 +20,9 @@ fn is_trace(line: &[u8]) -> bool
     ensures whole { (text : List ℕ) → line.now ≡ text ++ 10 ∷ [] → result ≡ bytes_eq text (codes "trace 1") }
     ensures rest { ¬ EndsWithLf line.now → result ≡ false }
 {
-    match part_of(line) {
-        Part::Line(text) => Marks::is_version(text),
-        Part::Rest(_) => false,
+    match line_or_rest(line) {
+        LineOrRest::Line(text) => TraceLanguage::is_version(text),
+        LineOrRest::Rest(_) => false,
     }
 }
 
@@ -44,8 +44,8 @@ pub fn check<B: BufRead>(alloc: Global, reader: &mut B) -> Result<Finding, Check
     let mut line = Vec::new(alloc);
     next_line(reader, &mut line)?;
     if is_trace(&line) {
-        judge::<Marks, B>(alloc, reader, &mut line)
+        judge::<TraceLanguage, B>(alloc, reader, &mut line)
     } else {
-        judge::<Entries, B>(alloc, reader, &mut line)
+        judge::<HistoryLanguage, B>(alloc, reader, &mut line)
     }
 }

@@ -1,18 +1,18 @@
 //! The language of histories.
 ghost use Rattle.wq_recording.specs.History.{IsOf, history_grammar};
 
-use crate::entry::Entry;
-use crate::history_words::{Telling, entry, telling_of};
+use crate::history_words::{HistoryWord, history_word_of, line_events};
+use crate::line_events::LineEvents;
 use wq_text::{Language, LineError, Most, without_first};
 use wq_words::{Layout, MOST_ITEMS, MOST_SENDERS};
 
-// The lines of a history, each an entry at most.
-pub(crate) struct Entries;
+// The lines of a history, each of two events at most.
+pub(crate) struct HistoryLanguage;
 
-impl Language for Entries {
-    type Name = Telling;
+impl Language for HistoryLanguage {
+    type Name = HistoryWord;
 
-    type Asked = Entry;
+    type Asked = LineEvents;
 
     ghost grammar = { history_grammar };
 
@@ -33,16 +33,16 @@ impl Language for Entries {
         }
     }
 
-    fn name(first: &str, others: &[&str]) -> Option<Telling> {
-        telling_of(first, others)
+    fn name(first: &str, others: &[&str]) -> Option<HistoryWord> {
+        history_word_of(first, others)
     }
 
     fn ask(
         layout: Layout,
-        name: Telling,
+        name: HistoryWord,
         first: &str,
         others: &[&str],
-    ) -> Result<Entry, LineError> {
-        entry(layout, name, first, without_first(others))
+    ) -> Result<LineEvents, LineError> {
+        line_events(layout, name, first, without_first(others))
     }
 }

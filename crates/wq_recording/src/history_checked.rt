@@ -8,8 +8,8 @@ ghost use Rattle.wq_recording.specs.History.{IsEventOf};
 ghost use Rattle.wq_recording.specs.HistoryReport.{event_count_lines, history_counts};
 
 use crate::count_text::write_count_lines;
-use crate::entry::Entry;
-use crate::history::Entries;
+use crate::history::HistoryLanguage;
+use crate::line_events::LineEvents;
 use crate::recording::Recording;
 use std::alloc::{AllocError, Global};
 use wq_check::{Cause, Checker, EventError, Report};
@@ -59,7 +59,7 @@ fn write_report(report: Report, out: &mut String) -> Result<(), AllocError>
     write_line(either(report.complete, "complete yes", "complete no"), out)
 }
 
-impl Recording for Entries {
+impl Recording for HistoryLanguage {
     type Event = Event;
 
     type Checker = Checker;
@@ -78,9 +78,9 @@ impl Recording for Entries {
         Checker::new(alloc, layout)
     }
 
-    fn tell(checker: &mut Checker, entry: Entry) -> Result<(), Cause> {
-        tell_event(checker, entry.first)?;
-        if let Some(second) = entry.second {
+    fn tell(checker: &mut Checker, events: LineEvents) -> Result<(), Cause> {
+        tell_event(checker, events.first)?;
+        if let Some(second) = events.second {
             tell_event(checker, second)?;
         }
         Ok(())

@@ -18,7 +18,7 @@ ghost use Rattle.wq_recording.specs.VerdictText.{verdict_of, SaysOf, Finds};
 
 use crate::error::CheckError;
 use crate::finding::Finding;
-use crate::lines::{MOST_LINE_BYTES, Part, next_line, part_of};
+use crate::lines::{LineOrRest, MOST_LINE_BYTES, line_or_rest, next_line};
 use crate::recording::Recording;
 use crate::stop::Stop;
 use crate::verdict_text::found;
@@ -31,7 +31,7 @@ use wq_words::Layout;
 
 // What a line without a fault comes to.
 #[derive(Drop)]
-pub(crate) enum Told {
+pub(crate) enum LineOutcome {
     // The stage behind it.
     On(Stage),
     // Its first event that is not legal has this cause; the checker was told those before.
@@ -39,14 +39,18 @@ pub(crate) enum Told {
 }
 
 // Tells a checker of this layout what is asked for.
-fn tell_asked<L: Recording>(layout: Layout, checker: &mut L::Checker, asked: L::Asked) -> Told
+fn tell_asked<L: Recording>(
+    layout: Layout,
+    checker: &mut L::Checker,
+    asked: L::Asked,
+) -> LineOutcome
     requires made { L.layout_of checker.old ≡ layout }
     requires fits { L.fits layout asked }
     ensures { ComesTo L.rules L.layout_of L.is_after (Commands layout) (Some checker.old) (Some asked) result (Some checker.new) }
 {
     match L::tell(checker, asked) {
-        Ok(()) => Told::On(Stage::Commands(layout)),
-        Err(cause) => Told::Stop(layout, cause),
+        Ok(()) => LineOutcome::On(Stage::Commands(layout)),
+        Err(cause) => LineOutcome::Stop(layout, cause),
     }
 }
 
@@ -56,13 +60,13 @@ fn tell<L: Recording>(
     next: Stage,
     checker: &mut Option<L::Checker>,
     asked: Option<L::Asked>,
-) -> Result<Told, AllocError>
+) -> Result<LineOutcome, AllocError>
     requires made { IsMadeAt L.layout_of next checker.old }
     requires fits { IfSome asked (λ a. (layout : Numbers) × (next ≡ Commands layout) × L.fits layout a) }
     ensures { IfOk result (λ told. ComesTo L.rules L.layout_of L.is_after next checker.old asked told checker.new) }
 {
     let Some(asked) = asked else {
-        return Ok(Told::On(next));
+        return Ok(LineOutcome::On(next));
     };
     let Stage::Commands(layout) = next else {
         unreachable!();
@@ -82,7 +86,7 @@ fn tell_line<L: Recording>(
     stage: Stage,
     checker: &mut Option<L::Checker>,
     line: &[u8],
-) -> Result<Told, LineError>
+) -> Result<LineOutcome, LineError>
     requires sound { SoundAt L.grammar.most.senders L.fits stage [] }
     requires made { IsMadeAt L.layout_of stage checker.old }
     ensures told { IfOk result (λ told. (next : Awaited) × (one : Option L.Asked) × (line_gives L.grammar stage line.now ≡ Ok (next, one))
@@ -173,17 +177,17 @@ pub(crate) fn judge<L: Recording, B: BufRead>(
     let mut stage = Stage::Version;
     let mut checker: Option<L::Checker> = None;
     for number in 1..u64::MAX {
-        let text = match part_of(line) {
-            Part::Line(text) => text,
-            Part::Rest(rest) => return last::<L>(alloc, number, stage, &checker, rest),
+        let text = match line_or_rest(line) {
+            LineOrRest::Line(text) => text,
+            LineOrRest::Rest(rest) => return last::<L>(alloc, number, stage, &checker, rest),
         };
         let told = match tell_line::<L>(alloc, stage, &mut checker, text) {
             Ok(told) => told,
             Err(error) => return Err(refusal(number, error)),
         };
         match told {
-            Told::On(next) => stage = next,
-            Told::Stop(layout, cause) => {
+            LineOutcome::On(next) => stage = next,
+            LineOutcome::Stop(layout, cause) => {
                 let stop = Stop {
                     line: number,
                     cause,

@@ -3,7 +3,6 @@
 
 mod checking;
 mod count_text;
-mod entry;
 mod error;
 mod finding;
 mod history;
@@ -12,6 +11,7 @@ mod history_text;
 mod history_words;
 mod judging;
 mod laws;
+mod line_events;
 mod lines;
 mod one_item;
 mod recording;

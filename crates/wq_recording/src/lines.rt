@@ -3,7 +3,7 @@ ghost use Rattle.std.specs.Prelude.{◌≡◌, ◌≢◌, ◌↔◌, ◌+◌, �
 ghost use Rattle.std.specs.Io.{StartsWith, StopsAt, IsEmptyOrEndsWith, appended_bytes};
 ghost use Rattle.std.specs.Io.KnownBytes.{Consumes};
 ghost use Rattle.wq_recording.specs.Lines.{IsLineRead, EndsOrGoesOn, most_line_bytes};
-ghost use Rattle.wq_recording.specs.Parts.{IsLineOrRest};
+ghost use Rattle.wq_recording.specs.LineOrRest.{IsLineOrRest};
 
 use std::io;
 use std::io::{BufRead, ErrorKind};
@@ -87,7 +87,7 @@ pub(crate) fn next_line<B: BufRead>(reader: &mut B, line: &mut Vec<u8>) -> io::R
 
 /// What was read of a line.
 #[derive(Clone, Copy)]
-pub(crate) enum Part<'a> {
+pub(crate) enum LineOrRest<'a> {
     /// A line, without its LF.
     Line(&'a [u8]),
     /// What no LF ends.
@@ -95,11 +95,11 @@ pub(crate) enum Part<'a> {
 }
 
 /// What was read.
-pub(crate) fn part_of(line: &[u8]) -> Part<'_>
+pub(crate) fn line_or_rest(line: &[u8]) -> LineOrRest<'_>
     ensures { IsLineOrRest line.now result }
 {
     match line.split_last() {
-        Some((b'\n', text)) => Part::Line(text),
-        _ => Part::Rest(line),
+        Some((b'\n', text)) => LineOrRest::Line(text),
+        _ => LineOrRest::Rest(line),
     }
 }

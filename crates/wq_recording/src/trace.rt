@@ -44,9 +44,9 @@ fn mark(layout: Layout, sight: Sight, words: &[&str]) -> Result<Mark, LineError>
 }
 
 // The lines of a trace, each a mark at most.
-pub(crate) struct Marks;
+pub(crate) struct TraceLanguage;
 
-impl Language for Marks {
+impl Language for TraceLanguage {
     type Name = Sight;
 
     type Asked = Mark;

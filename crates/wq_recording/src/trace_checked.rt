@@ -4,7 +4,7 @@ ghost use Rattle.wq_recording.specs.TraceReport.{trace_counts};
 
 use crate::count_text::write_count_lines;
 use crate::recording::Recording;
-use crate::trace::Marks;
+use crate::trace::TraceLanguage;
 use std::alloc::{AllocError, Global};
 use wq_check::{Cause, Mark, MarkError, TraceChecker, TraceReport};
 use wq_words::Layout;
@@ -24,7 +24,7 @@ fn write_report(report: TraceReport, out: &mut String) -> Result<(), AllocError>
     write_count_lines(&counts, out)
 }
 
-impl Recording for Marks {
+impl Recording for TraceLanguage {
     type Event = Mark;
 
     type Checker = TraceChecker;

@@ -2,7 +2,7 @@ use Rattle.wq_recording.proofs.Common.{sym, subst}
 use Rattle.wq_check.specs.TraceChecked.{TraceCheckerState, IsAfterMarks}
 use Rattle.wq_recording.specs.TraceReport.{trace_rules}
 use Rattle.wq_recording.proofs.Telling.{stops_first}
-use Rattle.wq_recording.proofs.trace_checked.MarksRecording.tell.Goals as goal
+use Rattle.wq_recording.proofs.trace_checked.TraceLanguageRecording.tell.Goals as goal
 
 pub returns-in-Err-NotAllowed-clause-stopped : goal.returns-in-Err-NotAllowed-clause-stopped
 returns-in-Err-NotAllowed-clause-stopped c = λ t after.
