@@ -15,19 +15,19 @@ use Rattle.wq_live.specs.Laws.{queued_number}
 use Rattle.wq_worker.specs.State.{WorkerState, items_among}
 use Rattle.wq_pool.specs.Known.{PoolState, IsCallerOf}
 use Rattle.wq_pool.specs.Quiet.{IsQuiet}
-use Rattle.example_pool.specs.declared.work.Runs.{Runs}
-use Rattle.example_pool.specs.declared.queueing.Seat.{Seat}
-use Rattle.example_pool.specs.declared.queueing.Line.{Line}
+use Rattle.example_pool.specs.declared.work.RunList.{RunList}
+use Rattle.example_pool.specs.declared.queueing.SenderWithCaller.{SenderWithCaller}
+use Rattle.example_pool.specs.declared.queueing.QueueSenders.{QueueSenders}
 use Rattle.example_pool.specs.declared.queueing.Told.{Told}
 use Rattle.example_pool.specs.declared.pool.Ended.{Ended}
 
 -- the new senders 0 and 1 of one queue, which has four items at least, with callers of this pool and a number of one of its queues
-pub record IsNewLine (pool : PoolState (WorkerState Runs)) (line : Line) : Type 0 where
-  pub items : 4 ≤ line.first.sender.layout.items
-  pub first_is : line.first.sender ≡ new_sender line.first.sender.queue line.first.sender.layout 0
-  pub second_is : line.second.sender ≡ new_sender line.first.sender.queue line.first.sender.layout 1
-  pub callers : IsCallerOf pool.ready line.first.caller × IsCallerOf pool.ready line.second.caller
-  pub queues : (line.first.queue < length pool.workers) × (line.second.queue < length pool.workers)
+pub record AreNewSenders (pool : PoolState (WorkerState RunList)) (senders : QueueSenders) : Type 0 where
+  pub items : 4 ≤ senders.first.sender.layout.items
+  pub first_is : senders.first.sender ≡ new_sender senders.first.sender.queue senders.first.sender.layout 0
+  pub second_is : senders.second.sender ≡ new_sender senders.first.sender.queue senders.first.sender.layout 1
+  pub callers : IsCallerOf pool.ready senders.first.caller × IsCallerOf pool.ready senders.second.caller
+  pub queues : (senders.first.queue < length pool.workers) × (senders.second.queue < length pool.workers)
 
 -- what sender s does in a queueing of k that has this answer
 abbrev pub queueing : ℕ → ℕ → Answer → List Event
@@ -42,7 +42,7 @@ abbrev pub DidAsTold : ℕ → ℕ → ℕ → Told → Type 0
 DidAsTold s one two told = own s told.sender.seen ≡ queueing s one told.one ++ queueing s two told.two
 
 -- the same sender has queued these items: just those of them were accepted whose queueing was answered Queued, in this order
-pub record QueuedBoth (one two : ℕ) (seat : Seat) (told : Told) : Type 0 where
+pub record QueuedBoth (one two : ℕ) (seat : SenderWithCaller) (told : Told) : Type 0 where
   pub same : IsSame seat.sender told.sender
   pub tells : DidAsTold seat.sender.number one two told
   pub accepted_is : accepted (own seat.sender.number told.sender.seen) ≡ queued_number one told.one ++ queued_number two told.two

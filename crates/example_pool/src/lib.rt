@@ -6,6 +6,6 @@ mod pool;
 mod queueing;
 mod work;
 
-pub use pool::{Ended, RunError, run};
+pub use pool::{Ended, Unended, run};
 pub use queueing::Told;
-pub use work::Runs;
+pub use work::RunList;

@@ -8,11 +8,11 @@ ghost use Rattle.wq_pool.specs.State.{items_among};
 ghost use Rattle.wq_pool.specs.Finished.{AreFinished, BeginAsHandedIn};
 ghost use Rattle.wq_pool.specs.Quiet.{IsUnused, IsQuiet};
 ghost use Rattle.wq_pool.specs.WorkerId.{worker_id};
-ghost use Rattle.example_pool.specs.Runs.{RunsInStep};
-ghost use Rattle.example_pool.specs.Ended.{IsNewLine, HaveQueued, RanAll};
+ghost use Rattle.example_pool.specs.RunList.{RunsInStep};
+ghost use Rattle.example_pool.specs.Ended.{AreNewSenders, HaveQueued, RanAll};
 
-use crate::queueing::{Line, Seat, Told, queue_all};
-use crate::work::Runs;
+use crate::queueing::{QueueSenders, SenderWithCaller, Told, queue_all};
+use crate::work::RunList;
 use std::alloc::{AllocError, Global};
 use std::sync::Wait;
 use std::thread::{Threads, join};
@@ -27,7 +27,7 @@ const EXECUTIONS: u32 = 1024;
 
 /// Why the queues did not come to their end.
 #[derive(Clone, Copy, Debug, PartialEq, Eq, Error)]
-pub enum RunError {
+pub enum Unended {
     /// No memory could be had.
     #[error("no memory")]
     Memory,
@@ -36,15 +36,15 @@ pub enum RunError {
     Out { queue: u32 },
 }
 
-impl From<AllocError> for RunError {
-    fn from(_error: AllocError) -> RunError {
-        RunError::Memory
+impl From<AllocError> for Unended {
+    fn from(_error: AllocError) -> Unended {
+        Unended::Memory
     }
 }
 
-impl From<Unbuilt<Runs>> for RunError {
-    fn from(_unbuilt: Unbuilt<Runs>) -> RunError {
-        RunError::Memory
+impl From<Unbuilt<RunList>> for Unended {
+    fn from(_unbuilt: Unbuilt<RunList>) -> Unended {
+        Unended::Memory
     }
 }
 
@@ -52,7 +52,7 @@ impl From<Unbuilt<Runs>> for RunError {
 #[derive(Drop)]
 pub struct Ended {
     /// The work, with the list of what it ran.
-    pub work: Runs,
+    pub work: RunList,
     /// The book, with the whole history of the queue, which contracts alone see.
     pub book: Book,
     /// The sender 0, whose queueings were of the items 0 and 1.
@@ -64,9 +64,9 @@ pub struct Ended {
 // A pool of two queues, and its callers.
 fn pool_of(
     alloc: Global,
-    one: Worker<Runs>,
-    two: Worker<Runs>,
-) -> Result<(Pool<Runs>, Vec<Caller>), RunError>
+    one: Worker<RunList>,
+    two: Worker<RunList>,
+) -> Result<(Pool<RunList>, Vec<Caller>), Unended>
     requires idle { (¬ IsRunning one.seen) × (¬ IsRunning two.seen) }
     requires open { (¬ IsShut one.seen) × (¬ IsShut two.seen) }
     ensures workers { IfOk result (λ r. r.0.workers ≡ worker_id one ∷ worker_id two ∷ []) }
@@ -74,16 +74,16 @@ fn pool_of(
     ensures callers { IfOk result (λ r. All (IsCallerOf r.0.ready) r.1.items × (length r.1.items ≡ 7)) }
 {
     let Ok(queues) = Vec::from_array(alloc, [Served::new(one), Served::new(two)]) else {
-        return Err(RunError::Memory);
+        return Err(Unended::Memory);
     };
     match Pool::new(alloc, queues, 7) {
         Ok(made) => Ok(made),
-        Err(_) => Err(RunError::Memory),
+        Err(_) => Err(Unended::Memory),
     }
 }
 
 // One of the callers that are left.
-fn caller_of(pool: &Pool<Runs>, callers: &mut Vec<Caller>) -> Caller
+fn caller_of(pool: &Pool<RunList>, callers: &mut Vec<Caller>) -> Caller
     requires some { 0 < length callers.old.items }
     requires all { All (IsCallerOf pool.now.ready) callers.old.items }
     ensures one { IsCallerOf pool.now.ready result }
@@ -97,7 +97,12 @@ fn caller_of(pool: &Pool<Runs>, callers: &mut Vec<Caller>) -> Caller
 }
 
 // The senders of the pool's queue of this number, two of them with callers.
-fn line_of(pool: &Pool<Runs>, callers: &mut Vec<Caller>, queue: u32, senders: Vec<Sender>) -> Line
+fn senders_of(
+    pool: &Pool<RunList>,
+    callers: &mut Vec<Caller>,
+    queue: u32,
+    senders: Vec<Sender>,
+) -> QueueSenders
     requires queue { queue < length pool.now.workers }
     requires senders { length senders.items ≡ 3 }
     requires some { 2 ≤ length callers.old.items }
@@ -112,17 +117,17 @@ fn line_of(pool: &Pool<Runs>, callers: &mut Vec<Caller>, queue: u32, senders: Ve
         unreachable!()
     };
     let [sender, other, last] = senders;
-    let first = Seat {
+    let first = SenderWithCaller {
         queue,
         sender,
         caller: caller_of(pool, callers),
     };
-    let second = Seat {
+    let second = SenderWithCaller {
         queue,
         sender: other,
         caller: caller_of(pool, callers),
     };
-    Line {
+    QueueSenders {
         first,
         second,
         last,
@@ -133,17 +138,17 @@ fn line_of(pool: &Pool<Runs>, callers: &mut Vec<Caller>, queue: u32, senders: Ve
 // stands first last, so that the workers then find all that was queued.
 fn serve<R: Threads + Wait + Sync>(
     rt: &R,
-    pool: &Pool<Runs>,
+    pool: &Pool<RunList>,
     mut workers: Vec<Caller>,
     caller: Caller,
-    one: Line,
-    two: Line,
-) -> Result<((Told, Told), (Told, Told)), RunError>
+    one: QueueSenders,
+    two: QueueSenders,
+) -> Result<((Told, Told), (Told, Told)), Unended>
     requires workers { All (IsCallerOf pool.now.ready) workers.items }
     requires caller { IsCallerOf pool.now.ready caller }
     requires queues { 2 ≤ length pool.now.workers }
-    requires one { IsNewLine pool.now one }
-    requires two { IsNewLine pool.now two }
+    requires one { AreNewSenders pool.now one }
+    requires two { AreNewSenders pool.now two }
     ensures one { IfOk result (λ told. HaveQueued one.first.sender.queue told.0.0 told.0.1) }
     ensures two { IfOk result (λ told. HaveQueued two.first.sender.queue told.1.0 told.1.1) }
 {
@@ -153,7 +158,7 @@ fn serve<R: Threads + Wait + Sync>(
             requires { All (IsCallerOf pool.now.ready) workers.items }
         { pool.run(rt, workers.as_mut_slice(), &NoGate) },
         move ||
-            requires { IsCallerOf pool.now.ready caller × (2 ≤ length pool.now.workers) × IsNewLine pool.now one × IsNewLine pool.now two }
+            requires { IsCallerOf pool.now.ready caller × (2 ≤ length pool.now.workers) × AreNewSenders pool.now one × AreNewSenders pool.now two }
             ensures { HaveQueued one.first.sender.queue result.0.0 result.0.1 × HaveQueued two.first.sender.queue result.1.0 result.1.1 }
         { queue_all(rt, pool, caller, one, two) },
     );
@@ -162,7 +167,7 @@ fn serve<R: Threads + Wait + Sync>(
 }
 
 // Takes the pool apart. Where something is left of a queue it goes on.
-fn finish<R: Wait>(rt: &R, pool: Pool<Runs>) -> Result<Vec<(Runs, Book)>, RunError>
+fn finish<R: Wait>(rt: &R, pool: Pool<RunList>) -> Result<Vec<(RunList, Book)>, Unended>
     ensures finished { IfOk result (λ all. AreFinished (λ work. work.ran.items) pool.workers all.items) }
     ensures count { IfOk result (λ all. length all.items ≡ length pool.workers) }
     ensures begins { IfOk result (λ all. BeginAsHandedIn (λ w. w) RunsInStep (λ b. b) (λ w b. Unit {0}) pool.states all.items) }
@@ -172,19 +177,19 @@ fn finish<R: Wait>(rt: &R, pool: Pool<Runs>) -> Result<Vec<(Runs, Book)>, RunErr
         match pool.finish(EXECUTIONS) {
             Ok(all) => return Ok(all),
             Err(PoolFault::Unfinished { pool: same, .. }) => pool = same,
-            Err(PoolFault::Out { queue, .. }) => return Err(RunError::Out { queue }),
-            Err(PoolFault::Memory { .. }) => return Err(RunError::Memory),
+            Err(PoolFault::Out { queue, .. }) => return Err(Unended::Out { queue }),
+            Err(PoolFault::Memory { .. }) => return Err(Unended::Memory),
         }
     }
     unreachable!()
 }
 
 // The two that a list holds, in its order.
-fn both_of(finished: Vec<(Runs, Book)>) -> ((Runs, Book), (Runs, Book))
+fn both_of(finished: Vec<(RunList, Book)>) -> ((RunList, Book), (RunList, Book))
     requires two { length finished.items ≡ 2 }
     ensures both { finished.items ≡ result.0 ∷ result.1 ∷ [] }
 {
-    let Ok(finished) = <[(Runs, Book); 2]>::try_from(finished) else {
+    let Ok(finished) = <[(RunList, Book); 2]>::try_from(finished) else {
         unreachable!()
     };
     let [one, two] = finished;
@@ -192,13 +197,16 @@ fn both_of(finished: Vec<(Runs, Book)>) -> ((Runs, Book), (Runs, Book))
 }
 
 // Both queues at their end. Their works asked for nothing, so no worker queued a number of its own.
-fn finish_both<R: Wait>(rt: &R, pool: Pool<Runs>) -> Result<((Runs, Book), (Runs, Book)), RunError>
+fn finish_both<R: Wait>(
+    rt: &R,
+    pool: Pool<RunList>,
+) -> Result<((RunList, Book), (RunList, Book)), Unended>
     requires two { length pool.workers ≡ 2 }
     requires unused { AllByRecursion (IsUnused 3) pool.states }
     ensures finished { IfOk result (λ r. AreFinished (λ work. work.ran.items) pool.workers (r.0 ∷ r.1 ∷ [])) }
     ensures of_workers { IfOk result (λ r. IsQuiet 3 r.0.1.seen × IsQuiet 3 r.1.1.seen) }
 {
-    nothing_is_queued::<Runs>();
+    nothing_is_queued::<RunList>();
     let finished = finish(rt, pool)?;
     Ok(both_of(finished))
 }
@@ -220,7 +228,7 @@ fn meet(book: &mut Book, first: &mut Sender, second: &mut Sender)
 }
 
 // What a queue has done, and what its senders were told.
-fn end_of(finished: (Runs, Book), told: (Told, Told)) -> Ended
+fn end_of(finished: (RunList, Book), told: (Told, Told)) -> Ended
     requires told { HaveQueued finished.1.queue told.0 told.1 }
     requires ran { finished.0.ran.items ≡ items_among finished.1.layout (accepted finished.1.seen) }
     requires of_worker { IsQuiet 3 finished.1.seen }
@@ -248,18 +256,18 @@ pub fn run<R: Threads + Wait + Sync>(
     rt: &R,
     alloc: Global,
     layout: Layout,
-) -> Result<(Ended, Ended), RunError>
+) -> Result<(Ended, Ended), Unended>
     requires items { 4 ≤ layout.items }
     requires senders { layout.senders ≡ 4 }
     ensures layouts { IfOk result (λ ended. (ended.0.book.layout ≡ layout) × (ended.1.book.layout ≡ layout)) }
     ensures first { IfOk result (λ ended. RanAll ended.0.book.layout ended.0.book.seen ended.0) }
     ensures second { IfOk result (λ ended. RanAll ended.1.book.layout ended.1.book.seen ended.1) }
 {
-    let (one, of_one) = Worker::build(alloc, layout, Runs::new(), 1)?;
-    let (two, of_two) = Worker::build(alloc, layout, Runs::new(), 1)?;
+    let (one, of_one) = Worker::build(alloc, layout, RunList::new(), 1)?;
+    let (two, of_two) = Worker::build(alloc, layout, RunList::new(), 1)?;
     let (pool, mut callers) = pool_of(alloc, one, two)?;
-    let one = line_of(&pool, &mut callers, 0, of_one);
-    let two = line_of(&pool, &mut callers, 1, of_two);
+    let one = senders_of(&pool, &mut callers, 0, of_one);
+    let two = senders_of(&pool, &mut callers, 1, of_two);
     let caller = caller_of(&pool, &mut callers);
     let (told_one, told_two) = serve(rt, &pool, callers, caller, one, two)?;
     let (one, two) = finish_both(rt, pool)?;

@@ -4,9 +4,9 @@ ghost use Rattle.wq_pool.specs.History.{accepted};
 ghost use Rattle.wq_pool.specs.Seen.{own};
 ghost use Rattle.wq_pool.specs.Laws.{queued_number};
 ghost use Rattle.wq_pool.specs.Known.{IsSame, IsCallerOf};
-ghost use Rattle.example_pool.specs.Ended.{IsNewLine, queueing, QueuedBoth, HaveQueued};
+ghost use Rattle.example_pool.specs.Ended.{AreNewSenders, queueing, QueuedBoth, HaveQueued};
 
-use crate::work::Runs;
+use crate::work::RunList;
 use std::sync::Wait;
 use std::thread::{Threads, join};
 use wq_live::{Answer, Sender, own_events_grow, queued_is_accepted};
@@ -25,7 +25,7 @@ pub struct Told {
 
 /// A sender of the pool's queue of this number, and a caller that announces it.
 #[derive(Drop)]
-pub(crate) struct Seat {
+pub(crate) struct SenderWithCaller {
     pub(crate) queue: u32,
     pub(crate) sender: Sender,
     pub(crate) caller: Caller,
@@ -33,14 +33,14 @@ pub(crate) struct Seat {
 
 /// The senders of one queue: two for threads, and one for the stop item.
 #[derive(Drop)]
-pub(crate) struct Line {
-    pub(crate) first: Seat,
-    pub(crate) second: Seat,
+pub(crate) struct QueueSenders {
+    pub(crate) first: SenderWithCaller,
+    pub(crate) second: SenderWithCaller,
     pub(crate) last: Sender,
 }
 
 // One queueing, whose answer is what the sender then did. Where it wakes the queue, this is announced, so that a worker picks it.
-fn queue<R: Wait>(rt: &R, pool: &Pool<Runs>, seat: &mut Seat, item: u32) -> Answer
+fn queue<R: Wait>(rt: &R, pool: &Pool<RunList>, seat: &mut SenderWithCaller, item: u32) -> Answer
     requires caller { IsCallerOf pool.now.ready seat.old.caller }
     requires queue { seat.old.queue < length pool.now.workers }
     requires item { item < seat.old.sender.layout.items }
@@ -62,7 +62,13 @@ fn queue<R: Wait>(rt: &R, pool: &Pool<Runs>, seat: &mut Seat, item: u32) -> Answ
 }
 
 // What a thread does: two queueings, one after the other.
-fn queue_two<R: Wait>(rt: &R, pool: &Pool<Runs>, mut seat: Seat, one: u32, two: u32) -> Told
+fn queue_two<R: Wait>(
+    rt: &R,
+    pool: &Pool<RunList>,
+    mut seat: SenderWithCaller,
+    one: u32,
+    two: u32,
+) -> Told
     requires caller { IsCallerOf pool.now.ready seat.caller }
     requires queue { seat.queue < length pool.now.workers }
     requires one { one < seat.sender.layout.items }
@@ -72,7 +78,7 @@ fn queue_two<R: Wait>(rt: &R, pool: &Pool<Runs>, mut seat: Seat, one: u32, two: 
 {
     let first = queue(rt, pool, &mut seat, one);
     let second = queue(rt, pool, &mut seat, two);
-    let Seat { sender, .. } = seat;
+    let SenderWithCaller { sender, .. } = seat;
     Told {
         sender,
         one: first,
@@ -83,17 +89,17 @@ fn queue_two<R: Wait>(rt: &R, pool: &Pool<Runs>, mut seat: Seat, one: u32, two: 
 // The senders of one queue, two of them in threads of their own. The last one is given back.
 fn queue_both<R: Threads + Wait + Sync>(
     rt: &R,
-    pool: &Pool<Runs>,
-    line: Line,
+    pool: &Pool<RunList>,
+    senders: QueueSenders,
 ) -> ((Told, Told), Sender)
-    requires { IsNewLine pool.now line }
-    ensures { HaveQueued line.first.sender.queue result.0.0 result.0.1 }
+    requires { AreNewSenders pool.now senders }
+    ensures { HaveQueued senders.first.sender.queue result.0.0 result.0.1 }
 {
-    let Line {
+    let QueueSenders {
         first,
         second,
         last,
-    } = line;
+    } = senders;
     let told = join(
         rt,
         move ||
@@ -111,7 +117,7 @@ fn queue_both<R: Threads + Wait + Sync>(
 }
 
 // Queues the stop item, behind all that its queue has accepted.
-fn stop<R: Wait>(rt: &R, pool: &Pool<Runs>, caller: &mut Caller, queue: u32, mut sender: Sender)
+fn stop<R: Wait>(rt: &R, pool: &Pool<RunList>, caller: &mut Caller, queue: u32, mut sender: Sender)
     requires caller { IsCallerOf pool.now.ready caller.old }
     requires queue { queue < length pool.now.workers }
     ensures { IsCallerOf pool.now.ready caller.new }
@@ -132,26 +138,26 @@ fn stop<R: Wait>(rt: &R, pool: &Pool<Runs>, caller: &mut Caller, queue: u32, mut
 /// All four senders queue, and when they have ended both stop items follow.
 pub(crate) fn queue_all<R: Threads + Wait + Sync>(
     rt: &R,
-    pool: &Pool<Runs>,
+    pool: &Pool<RunList>,
     mut caller: Caller,
-    one: Line,
-    two: Line,
+    one: QueueSenders,
+    two: QueueSenders,
 ) -> ((Told, Told), (Told, Told))
     requires caller { IsCallerOf pool.now.ready caller }
     requires queues { 2 ≤ length pool.now.workers }
-    requires one { IsNewLine pool.now one }
-    requires two { IsNewLine pool.now two }
+    requires one { AreNewSenders pool.now one }
+    requires two { AreNewSenders pool.now two }
     ensures one { HaveQueued one.first.sender.queue result.0.0 result.0.1 }
     ensures two { HaveQueued two.first.sender.queue result.1.0 result.1.1 }
 {
     let ((told_one, last_one), (told_two, last_two)) = join(
         rt,
         move ||
-            requires { IsNewLine pool.now one }
+            requires { AreNewSenders pool.now one }
             ensures { HaveQueued one.first.sender.queue result.0.0 result.0.1 }
         { queue_both(rt, pool, one) },
         move ||
-            requires { IsNewLine pool.now two }
+            requires { AreNewSenders pool.now two }
             ensures { HaveQueued two.first.sender.queue result.0.0 result.0.1 }
         { queue_both(rt, pool, two) },
     );

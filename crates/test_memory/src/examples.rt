@@ -1,6 +1,6 @@
 //! The examples whose threads meet in a join. Each comes to its whole end also where a thread is wanting, by those that are there.
 use crate::calls::{Said, right};
-use example_pool::{Ended, RunError};
+use example_pool::{Ended, Unended};
 use example_threads::Unserved;
 use example_values::Met;
 use std::alloc::Global;
@@ -73,7 +73,7 @@ pub fn run_pool<T: Threads + Wait + Sync>(rt: &T, alloc: Global) -> Said {
     };
     match example_pool::run(rt, alloc, layout) {
         Ok((one, two)) => right(has_run(&one) && has_run(&two)),
-        Err(RunError::Memory) => Said::Memory,
-        Err(RunError::Out { .. }) => Said::Wrong,
+        Err(Unended::Memory) => Said::Memory,
+        Err(Unended::Out { .. }) => Said::Wrong,
     }
 }

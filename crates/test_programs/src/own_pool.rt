@@ -1,6 +1,6 @@
 //! The example of a user's own pool.
 use crate::expect::expect_each_words;
-use example_pool::{Ended, RunError, run};
+use example_pool::{Ended, Unended, run};
 use wq_words::Layout;
 
 const RUNS: u32 = 20;
@@ -36,9 +36,9 @@ fn both_queues_run_all(rt: HostRuntime) {
     }
 }
 
-const WORDS: &[(RunError, &str)] = &[
-    (RunError::Memory, "no memory"),
-    (RunError::Out { queue: 1 }, "the queue 1 is out"),
+const WORDS: &[(Unended, &str)] = &[
+    (Unended::Memory, "no memory"),
+    (Unended::Out { queue: 1 }, "the queue 1 is out"),
 ];
 
 #[test]
