@@ -11,7 +11,7 @@ use Rattle.wq_words.specs.Headline.{KeepsHeadline}
 use Rattle.wq_values.specs.Known.{QueueId}
 use Rattle.wq_values.specs.Laws.{queued_number}
 use Rattle.wq_values.specs.OwnBrought.{own_brought}
-use Rattle.example_values.specs.Messages.{Message, numbers_of}
+use Rattle.example_values.specs.Messages.{BoxedNumber, numbers_of}
 use Rattle.example_values.specs.declared.queueing.Told.{Told}
 use Rattle.example_values.specs.declared.queueing.Stopped.{Stopped}
 use Rattle.example_values.specs.declared.running.Met.{Met}
@@ -31,7 +31,7 @@ pub record TellsStop (queue : QueueId) (layout : Layout) (number : ℕ) (stopped
 -- A legal and complete history of the very queue whose senders these are, with the values that its events carry. All that was accepted
 -- began and ended, in order; the messages that ran are those that were brought, in order; what each sender's queueings brought is what
 -- it queued, in its order; and beside the stop item nothing else was accepted.
-pub record HasHandedOver (layout : Layout) (h : List Event) (brought : List (Option Message)) (met : Met) : Type 0 where
+pub record HasHandedOver (layout : Layout) (h : List Event) (brought : List (Option BoxedNumber)) (met : Met) : Type 0 where
   pub legal : IsLegalWith layout (with_values h brought)
   pub complete : IsComplete h
   pub headline : KeepsHeadline h

@@ -8,7 +8,7 @@ ghost use Rattle.wq_values.specs.Batch.{batch};
 ghost use Rattle.wq_values.specs.KnownWith.{handed_in};
 ghost use Rattle.example_values.specs.Messages.{numbers_of};
 
-use crate::queueing::Message;
+use crate::queueing::BoxedNumber;
 use crossbeam_utils::sync::Parker;
 use std::sync::Wait;
 use trail::Trail;
@@ -16,9 +16,9 @@ use wq_values::ValueOwner;
 
 /// The owner, the sum of each item times the message that came with it, and the list of the messages, which contracts alone see.
 #[derive(Drop)]
-pub struct Ran {
+pub struct OwnerOutcome {
     /// The owner, with the history that it has seen, which contracts alone see.
-    pub owner: ValueOwner<Message>,
+    pub owner: ValueOwner<BoxedNumber>,
     /// The sum of each item times the message that came with it.
     pub sum: u64,
     /// The list of the messages, which contracts alone see.
@@ -27,7 +27,7 @@ pub struct Ran {
 
 /// What an execution does with the message that it is handed: here a user's own work would stand. The item weighs its message, so
 /// that the sum tells which came with which.
-fn add_up(it: &mut Ran, item: u32, message: Option<Message>)
+fn add_up(it: &mut OwnerOutcome, item: u32, message: Option<BoxedNumber>)
     ensures owner { it.new.owner ≡ it.old.owner }
     ensures ran { it.new.ran.items ≡ it.old.ran.items ++ numbers_of (message ∷ []) }
 {
@@ -39,7 +39,7 @@ fn add_up(it: &mut Ran, item: u32, message: Option<Message>)
 }
 
 /// The next execution, which adds up its message, weighed by its item. Which number it was.
-fn execute_one(it: &mut Ran) -> u32
+fn execute_one(it: &mut OwnerOutcome) -> u32
     requires waits { batch it.old.owner.known.seen ≢ [] }
     requires idle { ¬ IsRunning it.old.owner.known.seen }
     requires ran { numbers_of (handed_in it.old.owner) ≡ it.old.ran.items }
@@ -58,7 +58,7 @@ fn execute_one(it: &mut Ran) -> u32
 }
 
 /// All that waits. Whether the stop item was among it.
-fn execute<R: Wait>(rt: &R, it: &mut Ran) -> bool
+fn execute<R: Wait>(rt: &R, it: &mut OwnerOutcome) -> bool
     requires idle { ¬ IsRunning it.old.owner.known.seen }
     requires ran { numbers_of (handed_in it.old.owner) ≡ it.old.ran.items }
     ensures same { IsSame it.old.owner.known it.new.owner.known }
@@ -84,7 +84,7 @@ fn execute<R: Wait>(rt: &R, it: &mut Ran) -> bool
 }
 
 /// Takes, executes and rests until the stop item ran. Where the queue rests, the thread parks.
-fn serve<R: Wait>(rt: &R, it: &mut Ran, parker: &Parker)
+fn serve<R: Wait>(rt: &R, it: &mut OwnerOutcome, parker: &Parker)
     requires open { ¬ IsShut it.old.owner.known.seen }
     requires empty { batch it.old.owner.known.seen ≡ [] }
     requires idle { ¬ IsRunning it.old.owner.known.seen }
@@ -110,7 +110,11 @@ fn serve<R: Wait>(rt: &R, it: &mut Ran, parker: &Parker)
 }
 
 /// Serves a new queue until the stop item ran, closes it, and executes what is left.
-pub(crate) fn execute_all<R: Wait>(rt: &R, owner: ValueOwner<Message>, parker: &Parker) -> Ran
+pub(crate) fn execute_all<R: Wait>(
+    rt: &R,
+    owner: ValueOwner<BoxedNumber>,
+    parker: &Parker,
+) -> OwnerOutcome
     requires new { (owner.known.seen ≡ []) × (owner.brought ≡ []) }
     ensures same { IsSame owner.known result.owner.known }
     ensures complete { IsComplete result.owner.known.seen }
@@ -119,7 +123,7 @@ pub(crate) fn execute_all<R: Wait>(rt: &R, owner: ValueOwner<Message>, parker: &
     ensures ran { numbers_of result.owner.brought ≡ result.ran.items }
     ensures unchained { accepted (own result.owner.known.number result.owner.known.seen) ≡ [] }
 {
-    let mut it = Ran {
+    let mut it = OwnerOutcome {
         owner,
         sum: 0,
         ran: Trail::new(),

@@ -6,6 +6,6 @@ mod executing;
 mod queueing;
 mod running;
 
-pub use executing::Ran;
+pub use executing::OwnerOutcome;
 pub use queueing::{Stopped, Told};
 pub use running::{Met, run};

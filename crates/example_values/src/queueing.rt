@@ -15,13 +15,13 @@ use trail::Trail;
 use wq_values::{Answer, ValueAnswer, ValueSender, queued_brings, queued_is_accepted};
 
 /// A message: a number in memory of its own.
-pub type Message = Box<u32>;
+pub type BoxedNumber = Box<u32>;
 
 /// A sender, and the list of the messages that it queued and was answered `Queued` for, which contracts alone see.
 #[derive(Drop)]
 pub struct Told {
     /// The sender, with the history that it has seen, which contracts alone see.
-    pub sender: ValueSender<Message>,
+    pub sender: ValueSender<BoxedNumber>,
     /// The list of the messages that it queued, which contracts alone see.
     pub queued: Trail,
 }
@@ -30,7 +30,7 @@ pub struct Told {
 #[derive(Drop)]
 pub struct Stopped {
     /// The sender, with the history that it has seen, which contracts alone see.
-    pub sender: ValueSender<Message>,
+    pub sender: ValueSender<BoxedNumber>,
     /// What its queueing was answered.
     pub answer: Answer,
 }
@@ -43,7 +43,7 @@ fn wake<V>(answer: &ValueAnswer<V>, unparker: &Unparker) {
 }
 
 /// The list with the message's number, if the message was queued.
-fn tell(queued: Trail, number: u32, answer: &ValueAnswer<Message>) -> Trail
+fn tell(queued: Trail, number: u32, answer: &ValueAnswer<BoxedNumber>) -> Trail
     ensures told { result.items ≡ queued.items ++ told_of number answer.now }
 {
     match answer {
@@ -55,17 +55,17 @@ fn tell(queued: Trail, number: u32, answer: &ValueAnswer<Message>) -> Trail
 /// One queueing. What the sender's own queueings brought grows by the message, if it was queued; else the message comes back.
 fn queue<R: Wait>(
     rt: &R,
-    sender: &mut ValueSender<Message>,
+    sender: &mut ValueSender<BoxedNumber>,
     item: u32,
-    message: Message,
+    message: BoxedNumber,
     unparker: &Unparker,
-) -> ValueAnswer<Message>
+) -> ValueAnswer<BoxedNumber>
     requires item { item < sender.old.known.layout.items }
     ensures same { IsSame sender.old.known sender.new.known }
     ensures brought { numbers_of (own_brought sender.old.known.number sender.new.known.seen sender.new.brought)
         ≡ numbers_of (own_brought sender.old.known.number sender.old.known.seen sender.old.brought) ++ told_of (box_value message) result }
 {
-    queued_brings::<Message>();
+    queued_brings::<BoxedNumber>();
     let answer = sender.queue_value_wait(rt, item, message);
     wake(&answer, unparker);
     answer
@@ -76,7 +76,7 @@ fn queue<R: Wait>(
 pub(crate) fn queue_own<R: Wait>(
     rt: &R,
     alloc: Global,
-    mut sender: ValueSender<Message>,
+    mut sender: ValueSender<BoxedNumber>,
     from: u32,
     to: u32,
     first: u32,
@@ -101,7 +101,7 @@ pub(crate) fn queue_own<R: Wait>(
 }
 
 /// Queues the stop item, behind all that was queued. Nothing else is accepted of this sender.
-pub(crate) fn stop(mut sender: ValueSender<Message>, unparker: &Unparker) -> Stopped
+pub(crate) fn stop(mut sender: ValueSender<BoxedNumber>, unparker: &Unparker) -> Stopped
     requires new { sender.known.seen ≡ [] }
     ensures same { IsSame sender.known result.sender.known }
     ensures accepted { accepted (own sender.known.number result.sender.known.seen) ≡ queued_number (stop_number sender.known.layout) result.answer }

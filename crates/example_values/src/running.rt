@@ -11,8 +11,8 @@ ghost use Rattle.wq_values.specs.OwnBrought.{own_brought};
 ghost use Rattle.example_values.specs.Met.{HasHandedOver};
 ghost use Rattle.example_values.specs.Messages.{numbers_of};
 
-use crate::executing::{Ran, execute_all};
-use crate::queueing::{Message, Stopped, Told, queue_own, stop};
+use crate::executing::{OwnerOutcome, execute_all};
+use crate::queueing::{BoxedNumber, Stopped, Told, queue_own, stop};
 use crossbeam_utils::sync::{Parker, Unparker};
 use std::alloc::Global;
 use std::sync::Wait;
@@ -23,16 +23,16 @@ use wq_words::Layout;
 /// The senders of a new queue: two that queue messages, and one that stops the owner behind them.
 #[derive(Drop)]
 struct Senders {
-    first: ValueSender<Message>,
-    second: ValueSender<Message>,
-    last: ValueSender<Message>,
+    first: ValueSender<BoxedNumber>,
+    second: ValueSender<BoxedNumber>,
+    last: ValueSender<BoxedNumber>,
 }
 
 /// The owner and the senders, which have met.
 #[derive(Drop)]
 pub struct Met {
     /// The owner, with the sum and the list of the messages that it ran.
-    pub ran: Ran,
+    pub ran: OwnerOutcome,
     /// The sender 0, and the messages that it queued.
     pub first: Told,
     /// The sender 1, and the messages that it queued.
@@ -43,10 +43,10 @@ pub struct Met {
 
 /// They meet, so that the owner has seen in the end what each sender did.
 fn meet(
-    first: &mut ValueSender<Message>,
-    second: &mut ValueSender<Message>,
-    last: &mut ValueSender<Message>,
-    owner: &mut ValueOwner<Message>,
+    first: &mut ValueSender<BoxedNumber>,
+    second: &mut ValueSender<BoxedNumber>,
+    last: &mut ValueSender<BoxedNumber>,
+    owner: &mut ValueOwner<BoxedNumber>,
 )
     requires senders { (second.old.known.queue ≡ first.old.known.queue) × (last.old.known.queue ≡ first.old.known.queue) }
     requires owner { owner.old.known.queue ≡ first.old.known.queue }
@@ -120,7 +120,7 @@ fn queue_all<R: Threads + Wait + Sync>(
 fn queue_and_execute<R: Threads + Wait + Sync>(
     rt: &R,
     alloc: Global,
-    owner: ValueOwner<Message>,
+    owner: ValueOwner<BoxedNumber>,
     senders: Senders,
     each: u32,
     parker: Parker,
@@ -186,7 +186,7 @@ pub fn run<R: Threads + Wait + Sync>(
 {
     let parker = Parker::new(alloc)?;
     let unparker = parker.unparker().clone()?;
-    let (owner, mut senders) = build_values::<Message>(alloc, layout)?;
+    let (owner, mut senders) = build_values::<BoxedNumber>(alloc, layout)?;
     let Some(last) = senders.pop() else {
         unreachable!()
     };

@@ -4,10 +4,10 @@ use Rattle.std.proofs.lemmas.List.Elements.{filter_map-append}
 use Rattle.wq_values.specs.ValueAnswer.{ValueAnswer}
 use Rattle.wq_values.specs.ValueAnswer.TheVariants as answer
 use Rattle.wq_values.specs.OwnBrought.{own_brought, queued_value}
-use Rattle.example_values.specs.Messages.{Message, number_in, numbers_of, told_of}
+use Rattle.example_values.specs.Messages.{BoxedNumber, number_in, numbers_of, told_of}
 use Rattle.example_values.proofs.queueing.queue.Goals as goal
 
-told : (message : Message) (a : ValueAnswer Message) → numbers_of (queued_value message a) ≡ told_of (box_value message) a
+told : (message : BoxedNumber) (a : ValueAnswer BoxedNumber) → numbers_of (queued_value message a) ≡ told_of (box_value message) a
 told message (answer.Queued first wakes) = refl
 told message (answer.Pending back) = refl
 told message (answer.Closed back) = refl
