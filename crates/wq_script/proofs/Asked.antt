@@ -2,14 +2,14 @@
 use Rattle.wq_script.proofs.Common.{◌≡◌, ℕ, ◌<◌, Bool, true, false, not, ◌&&◌, List, [], ◌∷◌, ◌++◌, Some, None, nat_lt, length, get_or, set, refl, sym, ap, ◌∙◌, subst}
 use Rattle.wq_script.proofs.Common.{arith, append_assoc, if◌then◌else◌, append-nil, get_or-set_same, Layout, Event, Hold, Busy, Push, Back, Close, pending}
 use Rattle.wq_script.proofs.Common.{closed, first, fresh, owner_seat, wakes, closed_count, Answer, Known, Sees, Answers, IsPushed, TakesAll, WorkerState, Moves}
-use Rattle.wq_script.proofs.Common.{shut, HasMetDrain, draining, queue_events, queue_answer, close_events, close_answer, Lists, Seats, Gathers, Seated, Asks}
+use Rattle.wq_script.proofs.Common.{shut, HasMetDrain, draining, queue_events, queue_answer, close_events, close_answer, Lists, Seats, Publishes, Seated, Asks}
 use Rattle.wq_script.proofs.Common.{Reaches}
 use Rattle.wq_words.specs.declared.event.Why.TheVariants as why
 use Rattle.wq_words.proofs.Closed.{shut_from_IsShut, shut_from_open, IsShut_from_shut, open_from_shut}
 use Rattle.wq_words.proofs.Rest.{wakes_quiet}
 use Rattle.wq_words.proofs.ShutOwn.{shut_same}
 use Rattle.wq_words.specs.declared.answer.Answer.TheVariants as answer
-use Rattle.wq_script.proofs.Seated.{Acts, with_sender, sender_acts, worker_acts}
+use Rattle.wq_script.proofs.Seated.{Acts, replacing_sender, sender_acts, worker_acts}
 use Rattle.wq_script.proofs.Queueings.{busy_events, push_events, refused_events, drained_events, queue_says, not_closed, not_draining, last_own}
 use Rattle.wq_script.proofs.Queueings.{first_held}
 
@@ -86,29 +86,29 @@ pub seat_layout : (layout : Layout) (s : Seats) (h : List Event) (p : ℕ) (x : 
 seat_layout layout s h p x g lt is = ap (λ (v : Known). v.layout) is ∙ (g.senders p x (omega (arith, lt, g.count))).layout_is
 
 -- where a seat was put, the seats have heard what it saw
-gathered_at : (s t : Seats) (p : ℕ) (x z : Known) → p < length s.senders.items
-    → ((d : Known) → Gathers (get_or (set s.senders.items p z) p d).seen (with_sender s p z) t) → Gathers z.seen (with_sender s p z) t
-gathered_at s t p x z lt all = subst (λ (v : Known). Gathers v.seen (with_sender s p z) t) (get_or-set_same s.senders.items p z x lt) (all x)
+published_at : (s t : Seats) (p : ℕ) (x z : Known) → p < length s.senders.items
+    → ((d : Known) → Publishes (get_or (set s.senders.items p z) p d).seen (replacing_sender s p z) t) → Publishes z.seen (replacing_sender s p z) t
+published_at s t p x z lt all = subst (λ (v : Known). Publishes v.seen (replacing_sender s p z) t) (get_or-set_same s.senders.items p z x lt) (all x)
 
 pub sender_asked : (layout : Layout) (s t : Seats) (h : List Event) (p k : ℕ) (a : Answer) (x z : Known) → Seated layout s h
     → p < length s.senders.items → x ≡ get_or s.senders.items p x
-    → Answers k 1 a x z → ((d : Known) → Gathers (get_or (set s.senders.items p z) p d).seen (with_sender s p z) t) → Asks layout p k a h s t
+    → Answers k 1 a x z → ((d : Known) → Publishes (get_or (set s.senders.items p z) p d).seen (replacing_sender s p z) t) → Asks layout p k a h s t
 sender_asked layout s t h p k a x z g lt is told all =
-    let gathered = gathered_at s t p x z lt all in
+    let published = published_at s t p x z lt all in
     let less : p < layout.senders = omega (arith, lt, g.count) in
     let number : x.number ≡ p = ap (λ (v : Known). v.number) is ∙ (g.senders p x less).number_is in
-    let both = asked layout t h p k x z (λ xs n sees. sender_acts layout s t h g p x z xs n less is sees gathered) a number told in
-    record { answer = both.0; seated = both.1; work = gathered.work; table = gathered.table }
+    let both = asked layout t h p k x z (λ xs n sees. sender_acts layout s t h g p x z xs n less is sees published) a number told in
+    record { answer = both.0; seated = both.1; work = published.work; table = published.table }
 
 -- a sender looked at a PENDING bit
 pub sender_looked : (layout : Layout) (s t : Seats) (h : List Event) (p : ℕ) (x z : Known) → Seated layout s h → p < length s.senders.items
-    → x ≡ get_or s.senders.items p x → Sees [] 0 x z → ((d : Known) → Gathers (get_or (set s.senders.items p z) p d).seen (with_sender s p z) t)
+    → x ≡ get_or s.senders.items p x → Sees [] 0 x z → ((d : Known) → Publishes (get_or (set s.senders.items p z) p d).seen (replacing_sender s p z) t)
     → Reaches layout h s t × (z.seen ≡ h)
 sender_looked layout s t h p x z g lt is sees all =
-    let gathered = gathered_at s t p x z lt all in
+    let published = published_at s t p x z lt all in
     let less : p < layout.senders = omega (arith, lt, g.count) in
-    let a = sender_acts layout s t h g p x z [] 0 less is sees gathered in (
-      record { seated = subst (λ (y : List Event). Seated layout t y) (append-nil h) a.seated; work = gathered.work; table = gathered.table },
+    let a = sender_acts layout s t h g p x z [] 0 less is sees published in (
+      record { seated = subst (λ (y : List Event). Seated layout t y) (append-nil h) a.seated; work = published.work; table = published.table },
       a.is ∙ append-nil h,
     )
 
@@ -128,20 +128,21 @@ worker_draining layout s h g = λ i. shuts (shut h) refl i && not (worker_closed
 -- the worker closed the queue
 pub worker_closes : (layout : Layout) (s t : Seats) (h : List Event) (w : WorkerState Lists) (taken : ℕ) → Seated layout s h → closed s.worker.seen ≡ false
     → Moves (Close ∷ []) 0 s.worker w → w.work ≡ s.worker.work → w.unqueued ≡ s.worker.unqueued → TakesAll Close taken w.seen
-    → Gathers w.seen (record { worker = w; delay = s.delay; senders = s.senders }) t → Reaches layout (h ++ close_events h) s t × (Some taken ≡ close_answer h)
-worker_closes layout s t h w taken g is_open moves work left takes gathered =
-    let a = (worker_acts layout s t h g w (Close ∷ []) 0 moves gathered).0 in
+    → Publishes w.seen (record { worker = w; delay = s.delay; senders = s.senders }) t
+    → Reaches layout (h ++ close_events h) s t × (Some taken ≡ close_answer h)
+worker_closes layout s t h w taken g is_open moves work left takes published =
+    let a = (worker_acts layout s t h g w (Close ∷ []) 0 moves published).0 in
     let not_yet : closed h ≡ false = sym (worker_closed layout s h g) ∙ is_open in
     let events : Close ∷ [] ≡ close_events h = sym (ap (λ (b : Bool). if b then [] else Close ∷ []) not_yet) in
     let last = last_own owner_seat takes.before takes.after h Close Close (sym takes.is ∙ a.is) takes.last refl in (
       record {
         seated = subst (λ (ys : List Event). Seated layout t (h ++ ys)) events a.seated;
         work = record {
-          work_is = gathered.work.work_is ∙ work;
-          unqueued_is = gathered.work.unqueued_is ∙ left;
-          tries_is = gathered.work.tries_is ∙ moves.tries;
+          work_is = published.work.work_is ∙ work;
+          unqueued_is = published.work.unqueued_is ∙ left;
+          tries_is = published.work.tries_is ∙ moves.tries;
         };
-        table = gathered.table;
+        table = published.table;
       },
       ap (λ (n : ℕ). Some n) (takes.count_is ∙ ap fresh last.1) ∙ sym (ap (λ (b : Bool). if b then None else Some (fresh h)) not_yet),
     )

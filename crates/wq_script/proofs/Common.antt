@@ -54,11 +54,11 @@ pub use Rattle.wq_meaning.proofs.Answers.{arm_given, queue_uncontended, modify_g
 pub use Rattle.wq_meaning.proofs.Meanings.{wrote, advanced, advance_back, advance_on, drained, drain_open, drain_closed}
 pub use Rattle.wq_meaning.proofs.Sizes.{advance_few, close_few, executions_few, modify_few, modify_table_few}
 pub use Rattle.wq_script.specs.Arming.{GoesWithTable, ArmsAs, CancelsAs, ModifiesAs, IsPosted, IsBackwards}
-pub use Rattle.wq_script.specs.Asking.{Asks, Reaches, Ran, HasLists, AsksOf, RunsAs}
+pub use Rattle.wq_script.specs.Asking.{Asks, Reaches, HasExecuted, HasFollowLists, AsksOf, RunsAs}
 pub use Rattle.wq_script.specs.Counting.{Tallied, counted, counted_armed, counted_push, counted_modified, counted_posts}
 pub use Rattle.wq_script.specs.Engine.{Meets, EngineDrains, Does, size, HasStateWithin}
 pub use Rattle.wq_script.specs.Quiet.{Quiet, ListsFit, IsWorkerIdle, ExecutesRow, Executed, ExecutesOne, HasStepped}
-pub use Rattle.wq_script.specs.Seats.{Gathers, Seated, StaysSilent, Hears, AllHear, IsSameTable, worker_sender, worker_owner, IsWider, IsAt}
+pub use Rattle.wq_script.specs.Seats.{Publishes, Seated, StaysSilent, Hears, AllHear, IsSameTable, worker_sender, worker_owner, IsWider, IsAt}
 pub use Rattle.wq_script.specs.declared.engine.Engine.{Engine}
 pub use Rattle.wq_script.specs.declared.lists.Lists.{Lists}
 pub use Rattle.wq_script.specs.declared.seats.Seats.{Seats}

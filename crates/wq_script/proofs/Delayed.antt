@@ -1,7 +1,7 @@
 -- What the delay table's sender did, and what an arming is in a script.
 use Rattle.wq_script.proofs.Common.{◌≡◌, ℕ, ◌+◌, Bool, true, false, List, [], ◌∷◌, ◌++◌, refl, sym, ap, ◌∙◌, subst, arith, IsTrue, ◌↔◌, Layout, Event, Hold}
 use Rattle.wq_script.proofs.Common.{Busy, pending, legal_next, Armed, armed_of, DelayTable, is_too_far, Sees, DelayState, IsFit, Arms, queue_events}
-use Rattle.wq_script.proofs.Common.{queue_answer, queues_now, arm_events, arm_table, arm_answer, Seats, Gathers, Seated, GoesWithTable}
+use Rattle.wq_script.proofs.Common.{queue_answer, queues_now, arm_events, arm_table, arm_answer, Seats, Publishes, Seated, GoesWithTable}
 use Rattle.wq_words.specs.declared.answer.Answer.TheVariants as queueing
 use Rattle.wq_words.specs.declared.answer.Armed.TheVariants as armed
 use Rattle.wq_delay.proofs.Going.{sees_none}
@@ -15,19 +15,19 @@ near_is true near = absurd (near refl)
 near_is false near = refl
 
 module _ (layout : Layout) (s t : Seats) (h : List Event) (g : Seated layout s h) (d : DelayState)
-    (gathered : Gathers d.sender.seen (record { worker = s.worker; delay = d; senders = s.senders }) t) where
+    (published : Publishes d.sender.seen (record { worker = s.worker; delay = d; senders = s.senders }) t) where
   -- the number of the delay table's sender
   abbrev pub p : ℕ
   p = layout.senders + 1
 
   pub acts : (xs : List Event) (n : ℕ) → Sees xs n s.delay.sender d.sender → Acts layout t h s.delay.sender.seen d.sender.seen xs n
-  acts xs n sees = delay_acts layout s t h g d xs n sees gathered
+  acts xs n sees = delay_acts layout s t h g d xs n sees published
 
   pub goes_with : (xs es : List Event) (now : DelayTable) → Seated layout t (h ++ xs) → xs ≡ es → d.table ≡ now → GoesWithTable layout (h ++ es) now s t
   goes_with xs es now seated events table = record {
     seated = subst (λ (x : List Event). Seated layout t (h ++ x)) events seated;
-    table = gathered.table ∙ table;
-    work = gathered.work;
+    table = published.table ∙ table;
+    work = published.work;
   }
 
   pub goes_as : (xs es : List Event) (was now : DelayTable) → GoesWithTable layout (h ++ xs) was s t → xs ≡ es → was ≡ now

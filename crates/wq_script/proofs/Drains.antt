@@ -3,7 +3,7 @@ use Rattle.wq_script.proofs.Common.{◌≡◌, ℕ, ◌+◌, ◌*◌, ◌<◌, �
 use Rattle.wq_script.proofs.Common.{if◌then◌else◌, append_assoc, append-nil, filter, eq-eqb, ne_eqb, eqb-true, drop, drop_of_length-le, None, slice_get_past, Layout, Event}
 use Rattle.wq_script.proofs.Common.{Drain, Resume, accepted, begun, ended, shut, draining, IsRunning, IsLegal, prefix_length, begun-append, ended-append, is_ours}
 use Rattle.wq_script.proofs.Common.{WorkerState, Moves, follow_of, ended_since, ends_at, left_in, begin_drain, end_drain, ScriptState}
-use Rattle.wq_script.proofs.Common.{after_row, after_drain, executions_few, Lists, Seats, Tally, Gathers, Seated, Quiet, Reaches, RunsAs, Tallied, Meets}
+use Rattle.wq_script.proofs.Common.{after_row, after_drain, executions_few, Lists, Seats, Tally, Publishes, Seated, Quiet, Reaches, RunsAs, Tallied, Meets}
 use Rattle.wq_words.specs.Legal.{HasRunOut}
 use Rattle.wq_words.proofs.Closed.{shut_from_IsShut, shut_from_open, closed_from_IsClosed}
 use Rattle.wq_words.proofs.Order.{in_order}
@@ -24,29 +24,29 @@ use Rattle.wq_script.proofs.Seated.{worker_acts}
 use Rattle.wq_script.proofs.Tallies.{Own, tallied_own}
 
 -- the worker made these events, and its work was not touched
-record Makes (es : List Event) (a b : WorkerState Lists) : Type 0 where
+record HasMade (es : List Event) (a b : WorkerState Lists) : Type 0 where
   moves : Moves es 0 a b
   work : b.work ≡ a.work
   left : b.unqueued ≡ a.unqueued
 
-makes_none : (a b : WorkerState Lists) → IsLegal a.layout a.seen → b ≡ a → Makes [] a b
-makes_none a b legal same = subst (λ (w : WorkerState Lists). Makes [] a w) (sym same) record {
+makes_none : (a b : WorkerState Lists) → IsLegal a.layout a.seen → b ≡ a → HasMade [] a b
+makes_none a b legal same = subst (λ (w : WorkerState Lists). HasMade [] a w) (sym same) record {
   moves = record { queue = refl; layout = refl; number = refl; tries = refl; adds = adds_none a.number a.seen; legal = legal };
   work = refl;
   left = refl;
 }
 
-makes_on : (xs ys : List Event) (a b c : WorkerState Lists) → Makes xs a b → Makes ys b c → Makes (xs ++ ys) a c
+makes_on : (xs ys : List Event) (a b c : WorkerState Lists) → HasMade xs a b → HasMade ys b c → HasMade (xs ++ ys) a c
 makes_on xs ys a b c p q = record { moves = moves_on xs ys 0 0 a b c p.moves q.moves; work = q.work ∙ p.work; left = q.left ∙ p.left }
 
 -- how it begins a drain, and how it ends one
-begins_as : (a b : WorkerState Lists) → IsLegal a.layout a.seen → Shuts a b → (es : List Event) × Makes es a b × (a.seen ++ es ≡ begin_drain a.seen)
+begins_as : (a b : WorkerState Lists) → IsLegal a.layout a.seen → Shuts a b → (es : List Event) × HasMade es a b × (a.seen ++ es ≡ begin_drain a.seen)
 begins_as a b legal (was_shut is same) = ([], makes_none a b legal same, append-nil a.seen ∙ sym (begun_before a.seen (shut_from_IsShut a.seen is)))
 begins_as a b legal (drains opens moves work left) =
     (Drain ∷ [], record { moves = moves; work = work; left = left }, sym (begun_anew a.seen (shut_from_open a.seen opens)))
 
 ends_as : (a b : WorkerState Lists) → IsLegal a.layout a.seen → (left_in a.seen == 0) ≡ true → Resumes a b
-    → (es : List Event) × Makes es a b × (a.seen ++ es ≡ end_drain a.seen)
+    → (es : List Event) × HasMade es a b × (a.seen ++ es ≡ end_drain a.seen)
 ends_as a b legal all (stays_closed is same) = (
   [],
   makes_none a b legal same,
@@ -79,7 +79,7 @@ module _ (layout : Layout) (s t : Seats) (h : List Event) (g : Seated layout s h
   was_legal = subst (λ (l : Layout). IsLegal l s.worker.seen) (sym g.sender.layout_is) g.seen
 
   -- what the worker made came to the history, and nothing else
-  made : (es : List Event) (w : WorkerState Lists) → Makes es s.worker w → Gathers w.seen (With w) t
+  made : (es : List Event) (w : WorkerState Lists) → HasMade es s.worker w → Publishes w.seen (With w) t
       → Reaches layout (h ++ es) s t × (s.worker.seen ≡ h) × (w.seen ≡ h ++ es)
   made es w m all =
       let a = (worker_acts layout s t h g w es 0 m.moves all).0 in (
@@ -97,8 +97,8 @@ module _ (layout : Layout) (s t : Seats) (h : List Event) (g : Seated layout s h
       )
 
   -- also between two parts of it
-  between : (xs ys : List Event) (b w : WorkerState Lists) → Makes xs s.worker b → Makes ys b w
-      → Gathers w.seen (With w) t → b.seen ≡ h ++ xs
+  between : (xs ys : List Event) (b w : WorkerState Lists) → HasMade xs s.worker b → HasMade ys b w
+      → Publishes w.seen (With w) t → b.seen ≡ h ++ xs
   between xs ys b w p q all =
       let m = makes_on xs ys s.worker b w p q in
       let both = worker_acts layout s t h g w (xs ++ ys) 0 m.moves all in
@@ -112,7 +112,7 @@ module _ (layout : Layout) (s t : Seats) (h : List Event) (g : Seated layout s h
       ∙ ap (λ (v : List Event). v ++ xs) both.0.alone
 
   pub drained_none : (w : WorkerState Lists) (d : Drained) → Drains may_be 0 d s.worker w
-      → Gathers w.seen (With w) t
+      → Publishes w.seen (With w) t
       → Reaches layout (end_drain (begin_drain h)) s t × (is_empty d ≡ (left_in (begin_drain h) == 0))
   drained_none w Empty told all =
       let b = told.began in

@@ -6,7 +6,7 @@ pub mod Queueings
 pub mod Asked
 pub mod Executed
 pub mod Running
-pub mod Ran
+pub mod HasExecuted
 pub mod Drains
 pub mod Delayed
 pub mod Moved

@@ -2,7 +2,7 @@
 use Rattle.wq_script.proofs.Common.{◌≡◌, ◌≢◌, ℕ, ◌<◌, Bool, true, false, List, [], ◌∷◌, ◌++◌, length, refl, sym, ap, ◌∙◌, subst, arith, if◌then◌else◌}
 use Rattle.wq_script.proofs.Common.{append-nil, Layout, Event, Close, closed, begun, ended, IsRunning, IsLegal, owner_seat, Answer, DelayTable, queue_events}
 use Rattle.wq_script.proofs.Common.{queue_answer, close_events, after_executions, ended_since, ScriptState, begun-append, ended-append, Engine, Seats, Tally}
-use Rattle.wq_script.proofs.Common.{Lists, Seated, ListsFit, Asks, Reaches, Ran, HasLists, GoesWithTable, Tallied, counted, Meets, Does, size, AsksOf}
+use Rattle.wq_script.proofs.Common.{Lists, Seated, ListsFit, Asks, Reaches, HasExecuted, HasFollowLists, GoesWithTable, Tallied, counted, Meets, Does, size, AsksOf}
 use Rattle.wq_script.proofs.Common.{state_after, lines, line, Command, length-append, answer_text}
 use Rattle.wq_meaning.proofs.Sizes.{queue_few}
 use Rattle.wq_script.proofs.Tallies.{Foreign, idle_on, tallied_own, all_own, legal_has}
@@ -12,7 +12,7 @@ abbrev pub engine : Layout → Seats → Tally → Engine
 engine layout seats tally = record { layout = layout; seats = seats; tally = tally }
 
 -- the lists stay where the work does
-pub same_lists : (layout : Layout) (a b : Seats) → b.worker.work.follows ≡ a.worker.work.follows → HasLists layout a → HasLists layout b
+pub same_lists : (layout : Layout) (a b : Seats) → b.worker.work.follows ≡ a.worker.work.follows → HasFollowLists layout a → HasFollowLists layout b
 same_lists layout a b same lists = record {
   count = ap (λ v. length v.items) same ∙ lists.count;
   fit = subst (λ v. ListsFit layout.items v.items) (sym same) lists.fit;
@@ -103,7 +103,7 @@ close_meets layout a b x s m goes =
 
 -- the worker executed
 pub ran_meets : (layout : Layout) (a b : Seats) (x : Tally) (s : ScriptState) (limit : ℕ) (ends : ℕ → Bool) (ran : List ℕ)
-    → Meets (engine layout a x) s → Ran layout s.history limit ends a b ran
+    → Meets (engine layout a x) s → HasExecuted layout s.history limit ends a b ran
     → Meets (engine layout b x) (record s { history = after_executions layout.senders s.follows ends limit s.history })
     × (ran ≡ ended_since s.history (after_executions layout.senders s.follows ends limit s.history))
 ran_meets layout a b x s limit ends ran m r =

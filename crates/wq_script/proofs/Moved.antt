@@ -5,7 +5,7 @@ use Rattle.wq_script.proofs.Common.{append_assoc, false≢true, if◌then◌else
 use Rattle.wq_script.proofs.Common.{closed, shut, IsLegal, legal_next, owner_seat, seat_of, own, Armed, Modified, modified_of}
 use Rattle.wq_script.proofs.Common.{DelayTable, Entry, items, on_table, due_part, is_too_far, table_without, table_at, HasMetDrain, DelayState, IsFit, IsOut}
 use Rattle.wq_script.proofs.Common.{Arms, Cancels, Rearms, ArmsAnew, Modifies, PostsDue, draining, post_event, post_events, post_table, post_answer}
-use Rattle.wq_script.proofs.Common.{cancel_events, modify_events, modify_table, modify_answer, advance_events, advance_table, Seats, Gathers}
+use Rattle.wq_script.proofs.Common.{cancel_events, modify_events, modify_table, modify_answer, advance_events, advance_table, Seats, Publishes}
 use Rattle.wq_script.proofs.Common.{Seated, GoesWithTable}
 use Rattle.wq_words.specs.declared.event.Why.TheVariants as why
 use Rattle.wq_words.proofs.Closed.{closed_from_IsClosed, closed_push_no, shut_from_open}
@@ -113,7 +113,7 @@ module _ (p : ℕ) (off : (p == owner_seat) ≡ false) where
       ap (λ (b : Bool). cond b (x ∷ own owner_seat es) (own owner_seat es)) (out_seat e x out.0) ∙ out_own gone es out.1
 
 module _ (layout : Layout) (s t : Seats) (h : List Event) (g : Seated layout s h) (d : DelayState)
-    (gathered : Gathers d.sender.seen (record { worker = s.worker; delay = d; senders = s.senders }) t) (fit : IsFit s.delay) where
+    (published : Publishes d.sender.seen (record { worker = s.worker; delay = d; senders = s.senders }) t) (fit : IsFit s.delay) where
   abbrev pub p : ℕ
   p = layout.senders + 1
 
@@ -129,17 +129,17 @@ module _ (layout : Layout) (s t : Seats) (h : List Event) (g : Seated layout s h
 
   pub cancelled_so : (k : ℕ) (b : Bool) → Cancels k b s.delay d → IsCancelledSo k b
   cancelled_so k true told =
-      let a = seated_by layout s t h g d gathered (λ m. Back m k why.Cancelled ∷ []) 0 told.1.seen in
+      let a = seated_by layout s t h g d published (λ m. Back m k why.Cancelled ∷ []) 0 told.1.seen in
       let events : cancel_events p k s.delay.table ≡ Back p k why.Cancelled ∷ [] = ap (λ (b : Bool). if b then Back p k why.Cancelled ∷ [] else []) told.0 in
-      (sym told.0, goes_with layout s t h g d gathered (Back p k why.Cancelled ∷ []) _ _ a.seated (sym events) told.1.table_is)
+      (sym told.0, goes_with layout s t h g d published (Back p k why.Cancelled ∷ []) _ _ a.seated (sym events) told.1.table_is)
   cancelled_so k false told =
-      let l = goes_nowhere layout s t h g d gathered told.1 fit in
+      let l = goes_nowhere layout s t h g d published told.1 fit in
       let events : cancel_events p k s.delay.table ≡ [] = ap (λ (b : Bool). if b then Back p k why.Cancelled ∷ [] else []) told.0 in
       let table : s.delay.table ≡ table_without k s.delay.table = λ i. record {
         entries = sym (without_off k s.delay.table.entries told.0) i;
         tick = s.delay.table.tick;
         next = s.delay.table.next;
-      } in (sym told.0, goes_as layout s t h g d gathered [] _ s.delay.table _ l (sym events) table)
+      } in (sym told.0, goes_as layout s t h g d published [] _ s.delay.table _ l (sym events) table)
 
   module _ (k delay : ℕ) where
     -- how a modification was answered, and what it led to
@@ -157,8 +157,8 @@ module _ (layout : Layout) (s t : Seats) (h : List Event) (g : Seated layout s h
     far_told : d ≡ s.delay → IsTrue (is_too_far delay s.delay.table) → IsModifiedSo modified.TooFar
     far_told same far =
         let means = modify_far p k delay h s.delay.table far in
-        let l = goes_nowhere layout s t h g d gathered same fit in
-        (sym means.2, goes_as layout s t h g d gathered [] _ s.delay.table _ l (sym means.0) (sym means.1))
+        let l = goes_nowhere layout s t h g d published same fit in
+        (sym means.2, goes_as layout s t h g d published [] _ s.delay.table _ l (sym means.0) (sym means.1))
 
     -- an item on the table was posted
     posted_told : (a : Modified) (back drains : Bool) → is_too_far delay s.delay.table ≡ false → on_table k s.delay.table.entries ≡ true → delay ≡ 0
@@ -170,32 +170,32 @@ module _ (layout : Layout) (s t : Seats) (h : List Event) (g : Seated layout s h
         let leaves : post_table k h s.delay.table ≡ post_leaves k s.delay.table drains = λ i. post_leaves k s.delay.table (so.1 i) in
         let says : post_answer h ≡ post_says back drains = λ i. post_says (so.0 i) (so.1 i) in (
           is ∙ (sym says ∙ sym means.2),
-          goes_with layout s t h g d gathered (post_adds p k back drains) _ _ seated (sym adds ∙ sym means.0) (table ∙ (sym leaves ∙ sym means.1)),
+          goes_with layout s t h g d published (post_adds p k back drains) _ _ seated (sym adds ∙ sym means.0) (table ∙ (sym leaves ∙ sym means.1)),
         )
 
     on_told : (a : Modified) → on_table k s.delay.table.entries ≡ true → TellsFar a → ¬ (a ≡ modified.Memory) → Rearms k delay 1 a s.delay d → IsModifiedSo a
     on_told modified.WasIdle at far room told = absurd told
     on_told modified.Pending at far room told = absurd told
-    on_told modified.Contended at far room told = let a = acts layout s t h g d gathered _ 1 told.1.seen in absurd (one_is_some a.none)
+    on_told modified.Contended at far room told = let a = acts layout s t h g d published _ 1 told.1.seen in absurd (one_is_some a.none)
     on_told modified.Memory at far room told = absurd (room refl)
     on_told modified.TooFar at far room told = far_told told (far.0 refl)
     on_told modified.Closed at far room told =
-        let a = seated_by layout s t h g d gathered (λ m. Back m k why.Closed ∷ []) 0 told.1.seen in
+        let a = seated_by layout s t h g d published (λ m. Back m k why.Closed ∷ []) 0 told.1.seen in
         let so = back_closed a.seated.wide p k h [] a.seated.legal in
         posted_told modified.Closed true false (near_by modified.Closed far closed_near) at told.0 a.seated told.1.table_is (so, closed_not_draining h so) refl
     on_told modified.Draining at far room told =
-        let a = acts layout s t h g d gathered [] 0 told.1.seen in
+        let a = acts layout s t h g d published [] 0 told.1.seen in
         let so = does_drain h (met_drain h [] refl (met_here [] a told.2)) in
         posted_told modified.Draining false true (near_by modified.Draining far draining_near) at told.0 a.seated told.1.table_is so refl
     on_told modified.Moved at far room (inl told) =
-        let a = seated_by layout s t h g d gathered (λ m. Push m k ∷ []) 0 told.1.seen in
+        let a = seated_by layout s t h g d published (λ m. Push m k ∷ []) 0 told.1.seen in
         let opens = pushed_open a.seated.wide p k h [] a.seated.legal in
         let so : (closed h ≡ false) × (draining h ≡ false) = (not_closed h opens, not_draining h opens) in
         posted_told modified.Moved false false (near_by modified.Moved far moved_near) at told.0 a.seated told.1.table_is so refl
     on_told modified.Moved at far room (inr told) =
         let means = modify_again p k delay h s.delay.table (near_by modified.Moved far moved_near) at told.0 in
-        let a = acts layout s t h g d gathered [] 0 told.1.seen in
-        (sym means.2, goes_with layout s t h g d gathered [] _ _ a.seated (sym means.0) (told.1.table_is ∙ sym means.1))
+        let a = acts layout s t h g d published [] 0 told.1.seen in
+        (sym means.2, goes_with layout s t h g d published [] _ _ a.seated (sym means.0) (told.1.table_is ∙ sym means.1))
 
     -- an item that is not on the table is armed
     armed_told : (b : Armed) → on_table k s.delay.table.entries ≡ false → ¬ IsTrue (is_too_far delay s.delay.table) → ¬ (b ≡ armed.Memory)
@@ -203,8 +203,8 @@ module _ (layout : Layout) (s t : Seats) (h : List Event) (g : Seated layout s h
         → Arms k delay 1 b s.delay d → IsModifiedSo (modified_of b)
     armed_told b at never room other told =
         let means = modify_off p k delay h s.delay.table (near_is (is_too_far delay s.delay.table) never) at in
-        let so = armed_so layout s t h g d gathered k delay fit b ((λ e. absurd (other e)), (λ far. absurd (never far))) room told in
-        (ap modified_of so.0 ∙ sym means.2, goes_as layout s t h g d gathered _ _ _ _ so.1 (sym means.0) (sym means.1))
+        let so = armed_so layout s t h g d published k delay fit b ((λ e. absurd (other e)), (λ far. absurd (never far))) room told in
+        (ap modified_of so.0 ∙ sym means.2, goes_as layout s t h g d published _ _ _ _ so.1 (sym means.0) (sym means.1))
 
     off_told : (a : Modified) → on_table k s.delay.table.entries ≡ false → TellsFar a → ¬ (a ≡ modified.Memory) → ArmsAnew k delay 1 a s.delay d
         → IsModifiedSo a
@@ -215,7 +215,7 @@ module _ (layout : Layout) (s t : Seats) (h : List Event) (g : Seated layout s h
     off_told modified.Pending at far room told = armed_told armed.Pending at (λ beyond. pending_near (far.1 beyond)) (λ e. cc) (λ e. cc) told
     off_told modified.Closed at far room told = armed_told armed.Closed at (λ beyond. closed_near (far.1 beyond)) (λ e. cc) (λ e. cc) told
     off_told modified.Draining at far room told = armed_told armed.Draining at (λ beyond. draining_near (far.1 beyond)) (λ e. cc) (λ e. cc) told
-    off_told modified.Contended at far room told = let a = acts layout s t h g d gathered _ 1 told.1.seen in absurd (one_is_some a.none)
+    off_told modified.Contended at far room told = let a = acts layout s t h g d published _ 1 told.1.seen in absurd (one_is_some a.none)
     off_told modified.TooFar at far room told = far_told told (far.0 refl)
     off_told modified.Memory at far room told = absurd (room refl)
 
@@ -232,7 +232,7 @@ module _ (layout : Layout) (s t : Seats) (h : List Event) (g : Seated layout s h
     due = due_part tick s.delay.table.entries
 
     acted : Acts layout t h s.delay.sender.seen d.sender.seen posts.events 0
-    acted = acts layout s t h g d gathered posts.events 0 posts.seen
+    acted = acts layout s t h g d published posts.events 0 posts.seen
 
     out : AllZip (IsOut p) posts.gone posts.events
     out = subst (λ (m : ℕ). AllZip (IsOut m) posts.gone posts.events) g.delay.number_is posts.out
@@ -240,7 +240,7 @@ module _ (layout : Layout) (s t : Seats) (h : List Event) (g : Seated layout s h
     stays : draining h ≡ false → posts.left ≡ []
     stays off = elim (stays_in_all posts.left 1 posts.events s.delay.sender d.sender posts.stays) [
       | inl none ↦ none
-      | inr (inl sees) ↦ let a = acts layout s t h g d gathered posts.events 1 sees in absurd (one_is_some a.none)
+      | inr (inl sees) ↦ let a = acts layout s t h g d published posts.events 1 sees in absurd (one_is_some a.none)
       | inr (inr met) ↦
           let wide = acted.seated.wide in
           let other = no_owner wide p (omega (arith, acted.seated.wider.senders)) in
@@ -263,4 +263,4 @@ module _ (layout : Layout) (s t : Seats) (h : List Event) (g : Seated layout s h
         let events = posted_all acted.seated.wide p (closed h) posts.gone posts.events h out refl acted.seated.legal in
         let table : d.table ≡ advance_table tick h s.delay.table =
         posts.table_is ∙ ap (λ (x : List Entry). table_at tick x s.delay.table) parts.1 in
-        goes_with layout s t h g d gathered posts.events _ _ acted.seated (events ∙ ap (map (post_event p h)) parts.0) table
+        goes_with layout s t h g d published posts.events _ _ acted.seated (events ∙ ap (map (post_event p h)) parts.0) table

@@ -2,7 +2,7 @@
 use Rattle.wq_script.proofs.Common.{◌≡◌, ℕ, ◌+◌, ◌<◌, ◌≤◌, Bool, true, false, not, ◌==◌, ◌||◌, ◌⊎◌, List, [], ◌++◌, length, get_or, set, arith, inl, inr, refl}
 use Rattle.wq_script.proofs.Common.{sym, ◌∙◌, subst, eq-eqb, filter, get_or-set_other, get_or-set_same, length-set, cases_lt, cases_eq, eqb-true, false≢true}
 use Rattle.wq_script.proofs.Common.{IsPrefix, QueueId, Layout, Event, IsLegal, owner_seat, own, others, Known, Sees, is_ours, WorkerState, Moves, Lists, Seats}
-use Rattle.wq_script.proofs.Common.{Hears, IsAt, IsWider, Seated, worker_sender, worker_owner, prefix_on, DelayState, with_item, prefix_self, seat_of, Gathers, ap}
+use Rattle.wq_script.proofs.Common.{Hears, IsAt, IsWider, Seated, worker_sender, worker_owner, prefix_on, DelayState, with_item, prefix_self, seat_of, Publishes, ap}
 use Rattle.wq_words.proofs.Seen.{own_between}
 use Rattle.wq_script.proofs.Alone.{IsSeat, settle}
 use mathlib.Core.Bool.{or-true}
@@ -49,33 +49,33 @@ pub record Acts (layout : Layout) (t : Seats) (h v z xs : List Event) (n : ℕ) 
   pub seated : Seated layout t (h ++ xs)
 
 -- the seats where one of the senders went on to z
-abbrev pub with_sender : Seats → ℕ → Known → Seats
-with_sender s p z = record { worker = s.worker; delay = s.delay; senders = with_item s.senders p z }
+abbrev pub replacing_sender : Seats → ℕ → Known → Seats
+replacing_sender s p z = record { worker = s.worker; delay = s.delay; senders = with_item s.senders p z }
 
 module _ (layout : Layout) (s t : Seats) (h : List Event) (g : Seated layout s h) where
   -- the seat c stands at h, or is one of those that f names and stands at z
-  abbrev Stands : (ℕ → Bool) → List Event → ℕ → Known → Type 0
-  Stands f z c k = IsAt g.queue g.wide c h k ⊎ ((f c ≡ true) × IsAt g.queue g.wide c z k)
+  abbrev StandsAtEither : (ℕ → Bool) → List Event → ℕ → Known → Type 0
+  StandsAtEither f z c k = IsAt g.queue g.wide c h k ⊎ ((f c ≡ true) × IsAt g.queue g.wide c z k)
 
   record StandAll (f : ℕ → Bool) (z : List Event) (m : Seats) : Type 0 where
     count : length m.senders.items ≡ layout.senders
-    senders : (i : ℕ) (d : Known) → i < layout.senders → Stands f z i (get_or m.senders.items i d)
-    sender : Stands f z layout.senders (worker_sender m.worker)
-    owner : Stands f z owner_seat (worker_owner m.worker)
-    delay : Stands f z (layout.senders + 1) m.delay.sender
+    senders : (i : ℕ) (d : Known) → i < layout.senders → StandsAtEither f z i (get_or m.senders.items i d)
+    sender : StandsAtEither f z layout.senders (worker_sender m.worker)
+    owner : StandsAtEither f z owner_seat (worker_owner m.worker)
+    delay : StandsAtEither f z (layout.senders + 1) m.delay.sender
     tries : m.worker.tries ≡ 1
 
   -- those that f names have acted, and then all have heard z
-  module _ (f : ℕ → Bool) (v z new xs : List Event) (n : ℕ) (m : Seats) (stand : StandAll f z m) (all : Gathers z m t) (legal : IsLegal g.wide z)
+  module _ (f : ℕ → Bool) (v z new xs : List Event) (n : ℕ) (m : Seats) (stand : StandAll f z m) (all : Publishes z m t) (legal : IsLegal g.wide z)
       (begins : IsPrefix h v) (ours_same : (c : ℕ) → IsSeat g.wide c → f c ≡ true → own c v ≡ own c h) (is : z ≡ v ++ new) where
     further : IsPrefix h z
     further = prefix_on h v z begins (new, sym is)
 
-    heard_at : (c : ℕ) (k k' : Known) → Stands f z c k → Hears z k k' → IsAt g.queue g.wide c z k'
+    heard_at : (c : ℕ) (k k' : Known) → StandsAtEither f z c k → Hears z k k' → IsAt g.queue g.wide c z k'
     heard_at c k k' (inl at) heard = still_at g.queue g.wide c h z k k' further at heard
     heard_at c k k' (inr at) heard = still_at g.queue g.wide c z z k k' (prefix_self z) at.1 heard
 
-    heard_none : (c : ℕ) (k k' : Known) → Stands f z c k → Hears z k k' → f c ≡ false → own c z ≡ own c h
+    heard_none : (c : ℕ) (k k' : Known) → StandsAtEither f z c k → Hears z k k' → f c ≡ false → own c z ≡ own c h
     heard_none c k k' (inl at) heard other = still_none g.queue g.wide c h z k k' further at heard
     heard_none c k k' (inr at) heard other = absurd (false≢true (sym other ∙ at.0))
 
@@ -125,7 +125,7 @@ module _ (layout : Layout) (s t : Seats) (h : List Event) (g : Seated layout s h
 
   -- one seat acted, and no other made any event
   one_acts : (p : ℕ) (x k : Known) (xs : List Event) (n : ℕ) (m : Seats) → IsAt g.queue g.wide p h x → Sees xs n x k
-      → StandAll (λ c. c == p) k.seen m → Gathers k.seen m t → Acts layout t h x.seen k.seen xs n
+      → StandAll (λ c. c == p) k.seen m → Publishes k.seen m t → Acts layout t h x.seen k.seen xs n
   one_acts p x k xs n m at sees stand all =
       let new : List Event = sees.grows.new in
       let legal : IsLegal g.wide k.seen = subst (λ (l : Layout). IsLegal l k.seen) (sees.same.layout_is ∙ at.layout_is) sees.legal in
@@ -136,13 +136,13 @@ module _ (layout : Layout) (s t : Seats) (h : List Event) (g : Seated layout s h
 
   -- a sender acted, and then all heard what it had seen
   pub sender_acts : (p : ℕ) (x k : Known) (xs : List Event) (n : ℕ) → p < layout.senders → x ≡ get_or s.senders.items p x → Sees xs n x k
-      → Gathers k.seen (with_sender s p k) t → Acts layout t h x.seen k.seen xs n
+      → Publishes k.seen (replacing_sender s p k) t → Acts layout t h x.seen k.seen xs n
   sender_acts p x k xs n lt is sees all =
       let q : List Known = s.senders.items in
       let at : IsAt g.queue g.wide p h x = subst (λ (v : Known). IsAt g.queue g.wide p h v) (sym is) (g.senders p x lt) in
       let put : (i : ℕ) (d : Known) → i ≡ p → get_or (set q p k) i d ≡ k =
       λ i d is. ap (λ (j : ℕ). get_or (set q p k) j d) is ∙ get_or-set_same q p k d (omega (arith, lt, g.count)) in
-      one_acts p x k xs n (with_sender s p k) at sees record {
+      one_acts p x k xs n (replacing_sender s p k) at sees record {
         count = length-set q p k ∙ g.count;
         senders = λ i d less. elim (cases_eq i p) [
           | inl is ↦ inr (
@@ -160,7 +160,7 @@ module _ (layout : Layout) (s t : Seats) (h : List Event) (g : Seated layout s h
 
   -- the delay table's sender acted
   pub delay_acts : (d : DelayState) (xs : List Event) (n : ℕ) → Sees xs n s.delay.sender d.sender
-      → Gathers d.sender.seen (record { worker = s.worker; delay = d; senders = s.senders }) t → Acts layout t h s.delay.sender.seen d.sender.seen xs n
+      → Publishes d.sender.seen (record { worker = s.worker; delay = d; senders = s.senders }) t → Acts layout t h s.delay.sender.seen d.sender.seen xs n
   delay_acts d xs n sees all =
       let p : ℕ = layout.senders + 1 in
       one_acts p s.delay.sender d.sender xs n (record { worker = s.worker; delay = d; senders = s.senders }) g.delay sees record {
@@ -174,7 +174,7 @@ module _ (layout : Layout) (s t : Seats) (h : List Event) (g : Seated layout s h
 
   -- the worker acted
   pub worker_acts : (w : WorkerState Lists) (xs : List Event) (n : ℕ) (moves : Moves xs n s.worker w)
-      → Gathers w.seen (record { worker = w; delay = s.delay; senders = s.senders }) t
+      → Publishes w.seen (record { worker = w; delay = s.delay; senders = s.senders }) t
       → Acts layout t h s.worker.seen w.seen xs n × (filter (λ e. not (is_ours layout.senders e)) moves.adds.new ≡ [])
   worker_acts w xs n moves all =
       let v : List Event = s.worker.seen in let p : ℕ = layout.senders in let new : List Event = moves.adds.new in

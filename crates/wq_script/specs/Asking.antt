@@ -42,12 +42,12 @@ DrainsNone is_empty s t =
     (layout : Layout) (h : List Event) → Seated layout s h → Reaches layout (end_drain (begin_drain h)) s t × (is_empty ≡ (left_in (begin_drain h) == 0))
 
 -- there is a list for each item, of items
-pub record HasLists (layout : Layout) (s : Seats) : Type 0 where
+pub record HasFollowLists (layout : Layout) (s : Seats) : Type 0 where
   pub count : length s.worker.work.follows.items ≡ layout.items
   pub fit : ListsFit layout.items s.worker.work.follows.items
 
 -- these were executed, and the lists and the table are as they were
-pub record Ran (layout : Layout) (h : List Event) (limit : ℕ) (ends : ℕ → Bool) (s t : Seats) (ran : List ℕ) : Type 0 where
+pub record HasExecuted (layout : Layout) (h : List Event) (limit : ℕ) (ends : ℕ → Bool) (s t : Seats) (ran : List ℕ) : Type 0 where
   pub seated : Seated layout t (after_executions layout.senders s.worker.work.follows.items ends limit h)
   pub ran_is : ran ≡ ended_since h (after_executions layout.senders s.worker.work.follows.items ends limit h)
   pub idle : ¬ IsRunning (after_executions layout.senders s.worker.work.follows.items ends limit h)
@@ -59,4 +59,5 @@ pub record Ran (layout : Layout) (h : List Event) (limit : ℕ) (ends : ℕ → 
 
 -- at most so many were executed, up to one of the last number
 abbrev pub RunsAs : Layout → ℕ → Option ℕ → List ℕ → Seats → Seats → Type 0
-RunsAs layout limit last ran s t = (h : List Event) → Seated layout s h → ¬ IsRunning h → HasLists layout s → Ran layout h limit (ends_at last) s t ran
+RunsAs layout limit last ran s t =
+    (h : List Event) → Seated layout s h → ¬ IsRunning h → HasFollowLists layout s → HasExecuted layout h limit (ends_at last) s t ran

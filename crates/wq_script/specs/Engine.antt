@@ -6,7 +6,7 @@ use Rattle.wq_meaning.specs.Execution.{follow_of, ended_since}
 use Rattle.wq_meaning.specs.Commands.{ScriptState, state_after, after_drain, lines}
 use Rattle.wq_script.specs.declared.engine.Engine.{Engine}
 use Rattle.wq_script.specs.Seats.{Seated}
-use Rattle.wq_script.specs.Asking.{HasLists}
+use Rattle.wq_script.specs.Asking.{HasFollowLists}
 use Rattle.wq_script.specs.Counting.{Tallied}
 
 -- the engine is in this state: its seats have seen the history, and it keeps the table and the lists
@@ -16,7 +16,7 @@ pub record Meets (e : Engine) (s : ScriptState) : Type 0 where
   pub tally : Tallied e.tally e.layout.senders s.history
   pub table : e.seats.delay.table ≡ s.table
   pub follows : e.seats.worker.work.follows.items ≡ s.follows
-  pub lists : HasLists e.layout e.seats
+  pub lists : HasFollowLists e.layout e.seats
   pub short : (k : ℕ) → length (follow_of s.follows k) ≤ 4
 
 -- how much has happened, at least

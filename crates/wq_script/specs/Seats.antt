@@ -59,7 +59,7 @@ pub record AreOne (s : Seats) : Type 0 where
   pub worker : s.worker.queue ≡ s.delay.sender.queue
 
 -- each seat hears this, and makes no event
-pub record Gathers (told : List Event) (old new : Seats) : Type 0 where
+pub record Publishes (told : List Event) (old new : Seats) : Type 0 where
   pub sender : Hears told (worker_sender old.worker) (worker_sender new.worker)
   pub owner : Hears told (worker_owner old.worker) (worker_owner new.worker)
   pub delay : Hears told old.delay.sender new.delay.sender

@@ -7,7 +7,7 @@ ghost use Rattle.wq_words.specs.declared.layout.Layout.{Layout};
 ghost use Rattle.wq_words.specs.declared.event.Event.{Event};
 ghost use Rattle.wq_words.specs.Numbers.{barrier_number, stop_number};
 ghost use Rattle.wq_live.specs.Known.{Known};
-ghost use Rattle.wq_script.specs.Seats.{StaysSilent, AllHear, IsSameTable, AreOne, Gathers, Seated, HasHistory};
+ghost use Rattle.wq_script.specs.Seats.{StaysSilent, AllHear, IsSameTable, AreOne, Publishes, Seated, HasHistory};
 ghost use Rattle.wq_script.specs.Asking.{AsksOf, LooksAt, ClosesAs, DrainsNone, RunsAs};
 ghost use Rattle.wq_script.specs.Arming.{ArmsAs, CancelsAs, ModifiesAs, IsBackwards, IsPosted};
 ghost use Rattle.wq_words.specs.History.{pending, closed};
@@ -78,11 +78,11 @@ impl Seats {
     }
 
     // Afterwards each seat has seen what the sender at the place and the delay table's sender had seen.
-    pub(crate) fn gather(&mut self, place: usize)
+    pub(crate) fn publish(&mut self, place: usize)
         requires place { place < length self.old.senders.items }
         requires one { AreOne self.old }
-        ensures sender { (d : Known) → Gathers (slice_index_or self.old.senders.items place d).seen self.old self.new }
-        ensures delay { Gathers self.old.delay.sender.seen self.old self.new }
+        ensures sender { (d : Known) → Publishes (slice_index_or self.old.senders.items place d).seen self.old self.new }
+        ensures delay { Publishes self.old.delay.sender.seen self.old self.new }
     {
         self.delay.meet(&mut self.senders[place]);
         meet_each(&mut self.delay, &mut self.senders);
@@ -90,13 +90,13 @@ impl Seats {
     }
 
     // Afterwards each seat has seen what the worker had seen.
-    pub(crate) fn gather_worker(&mut self)
+    pub(crate) fn publish_worker(&mut self)
         requires some { 0 < length self.old.senders.items }
         requires one { AreOne self.old }
-        ensures { Gathers self.old.worker.seen self.old self.new }
+        ensures { Publishes self.old.worker.seen self.old self.new }
     {
         self.worker.meet(&mut self.senders[0]);
-        self.gather(0);
+        self.publish(0);
     }
 
     // The sender queues an item, with one try.
@@ -108,7 +108,7 @@ impl Seats {
     {
         let place = sender as usize;
         let answer = self.senders[place].queue_tries(item, ONE_TRY);
-        self.gather(place);
+        self.publish(place);
         answer
     }
 
@@ -121,7 +121,7 @@ impl Seats {
     {
         let place = sender as usize;
         let answer = self.senders[place].flush_begin(barrier, ONE_TRY);
-        self.gather(place);
+        self.publish(place);
         answer
     }
 
@@ -133,7 +133,7 @@ impl Seats {
     {
         let place = sender as usize;
         let answer = self.senders[place].request_stop(ONE_TRY);
-        self.gather(place);
+        self.publish(place);
         answer
     }
 
@@ -145,7 +145,7 @@ impl Seats {
         ensures { LooksAt (λ layout h. pending h item) result self.old self.new }
     {
         let is_pending = self.senders[0].is_pending(item);
-        self.gather(0);
+        self.publish(0);
         is_pending
     }
 
@@ -158,7 +158,7 @@ impl Seats {
     {
         let place = sender as usize;
         let is_flushed = self.senders[place].flush_done(barrier);
-        self.gather(place);
+        self.publish(place);
         is_flushed
     }
 
@@ -179,7 +179,7 @@ impl Seats {
             return None;
         }
         let taken = self.worker.close();
-        self.gather_worker();
+        self.publish_worker();
         Some(taken as u64)
     }
 
@@ -191,7 +191,7 @@ impl Seats {
         ensures { DrainsNone result self.old self.new }
     {
         let drained = self.worker.drain(0);
-        self.gather_worker();
+        self.publish_worker();
         match drained {
             Drained::Empty => true,
             Drained::TooLong { .. } => false,
@@ -211,7 +211,7 @@ impl Seats {
         ensures { IfOk result (λ ran. RunsAs layout.now limit last ran.items self.old self.new) }
     {
         let ran = execute_row(alloc, &mut self.worker, layout, limit, last)?;
-        self.gather_worker();
+        self.publish_worker();
         Ok(ran)
     }
 
@@ -224,7 +224,7 @@ impl Seats {
     {
         self.delay.fit();
         let armed = self.delay.arm(item, delay, ONE_TRY);
-        self.gather(0);
+        self.publish(0);
         armed
     }
 
@@ -237,7 +237,7 @@ impl Seats {
     {
         self.delay.fit();
         let was_on_table = self.delay.cancel(item);
-        self.gather(0);
+        self.publish(0);
         was_on_table
     }
 
@@ -251,7 +251,7 @@ impl Seats {
     {
         self.delay.fit();
         let modified = self.delay.modify(item, delay, ONE_TRY);
-        self.gather(0);
+        self.publish(0);
         modified
     }
 
@@ -287,7 +287,7 @@ impl Seats {
         self.delay.fit();
         let posted = self.posted_at(alloc, tick)?;
         let advanced = self.delay.advance(tick, ONE_TRY);
-        self.gather(0);
+        self.publish(0);
         match advanced {
             Ok(_) => Ok(Some(posted)),
             Err(Backwards) => Ok(None),

@@ -7,8 +7,8 @@ returns c = λ layout h g.
     let s = c.args.self.now in let p : ℕ = c.args.sender in
     let x : Known = c.index_mut.result.now in
     let z : Known = c.flush_begin-answer.new.self in
-    let t = c.gather.new.self in
+    let t = c.publish.new.self in
     sender_asked layout s t h p (layout.items + c.args.barrier) c.flush_begin-answer.result x z g c.requires.place c.index_mut.ensures.value
     (subst (λ (m : ℕ). Answers (m + c.args.barrier) 1 c.flush_begin-answer.result x z)
     (ap (λ (l : Layout). l.items) (seat_layout layout s h p x g c.requires.place c.index_mut.ensures.value)
-    ∙ g.wider.items) c.flush_begin-answer.ensures.answer) c.gather.ensures.sender
+    ∙ g.wider.items) c.flush_begin-answer.ensures.answer) c.publish.ensures.sender

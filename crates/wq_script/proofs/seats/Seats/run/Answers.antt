@@ -1,5 +1,5 @@
 use Rattle.wq_script.proofs.Common.{sym, ap, ◌∙◌, subst, Layout, IsLegal, ends_at}
-use Rattle.wq_script.proofs.Ran.{row_ran}
+use Rattle.wq_script.proofs.HasExecuted.{row_ran}
 use Rattle.wq_script.proofs.seats.Seats.run.Goals as goal
 
 pub execute_row-requires : goal.execute_row-requires
@@ -12,5 +12,5 @@ execute_row-requires c =
     }
 
 pub returns : goal.returns
-returns c = λ h g idle lists. row_ran c.args.layout.now c.args.self.now c.gather_worker.new.self h c.execute_row.new.worker c.args.limit
-    (ends_at c.args.last) c.in_ok-ran.ran.items g idle lists c.in_ok-ran.ensures c.gather_worker.ensures
+returns c = λ h g idle lists. row_ran c.args.layout.now c.args.self.now c.publish_worker.new.self h c.execute_row.new.worker c.args.limit
+    (ends_at c.args.last) c.in_ok-ran.ran.items g idle lists c.in_ok-ran.ensures c.publish_worker.ensures

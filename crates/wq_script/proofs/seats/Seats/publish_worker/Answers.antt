@@ -1,14 +1,14 @@
 use Rattle.wq_script.proofs.Common.{List, [], set, arith, sym, ap, ◌∙◌, subst, with_item, get_or-set_same, IsPrefix, Event, Known, Seats, StaysSilent, AllHear}
-use Rattle.wq_script.proofs.Common.{Gathers, worker_sender, worker_owner, prefix_on}
+use Rattle.wq_script.proofs.Common.{Publishes, worker_sender, worker_owner, prefix_on}
 use Rattle.wq_script.proofs.Hearing.{stays_on, sees_stays, moves_stay, all_hear_nothing, all_hear_set, all_hear_less, all_hear_on, queue_heard}
-use Rattle.wq_script.proofs.seats.Seats.gather_worker.Goals as goal
+use Rattle.wq_script.proofs.seats.Seats.publish_worker.Goals as goal
 
 pub meet-requires : goal.meet-requires
 meet-requires c = ap (λ (k : Known). k.queue) c.index_mut.ensures.value ∙ c.requires.one.senders 0 c.index_mut.result.now c.requires.some
     ∙ sym c.requires.one.worker
 
-pub gather-requires : goal.gather-requires
-gather-requires c =
+pub publish-requires : goal.publish-requires
+publish-requires c =
     let q : List Known = c.args.self.now.senders.items in
     let x : Known = c.index_mut.result.now in
     let k : Known = c.meet.new.sender in
@@ -28,7 +28,7 @@ returns c =
     let q : List Known = s.senders.items in
     let x : Known = c.index_mut.result.now in
     let k : Known = c.meet.new.sender in let w = c.meet.new.self in let m = c.meet.ensures in
-    let t = c.gather.new.self in
+    let t = c.publish.new.self in
     let mid : Seats = record { worker = w; delay = s.delay; senders = with_item s.senders 0 k } in
     let told : List Event = s.worker.seen in
     let one : AllHear [] q (set q 0 k) =
@@ -36,7 +36,7 @@ returns c =
     (subst (λ (v : Known). StaysSilent v k) c.index_mut.ensures.value (sees_stays 0 x k m.sender)) in
     let both = moves_stay 0 s.worker w m.worker in
     let knows : IsPrefix told k.seen = subst (λ (v : List Event). IsPrefix told v) (sym m.both) both.0.begins in
-    let g : Gathers k.seen mid t = subst (λ (v : Known). Gathers v.seen mid t) (get_or-set_same q 0 k x c.requires.some) (c.gather.ensures.sender x) in
+    let g : Publishes k.seen mid t = subst (λ (v : Known). Publishes v.seen mid t) (get_or-set_same q 0 k x c.requires.some) (c.publish.ensures.sender x) in
     record {
       sender = record {
         stays = stays_on (worker_sender s.worker) (worker_sender w) (worker_sender t.worker) both.0 g.sender.stays;

@@ -1,8 +1,8 @@
 use Rattle.wq_script.proofs.Common.{ℕ, ◌<◌, List, [], length, get_or, set, arith, sym, ap, ◌∙◌, subst, with_item, get_or_default, IsPrefix, Event, Known, Seats}
-use Rattle.wq_script.proofs.Common.{StaysSilent, AllHear, Gathers, prefix_on}
+use Rattle.wq_script.proofs.Common.{StaysSilent, AllHear, Publishes, prefix_on}
 use Rattle.wq_script.proofs.Hearing.{stays_on, sees_stays, keeps_same, same_table_on, moves_stay, all_hear_nothing, all_hear_set, all_hear_less, all_hear_on}
 use Rattle.wq_script.proofs.Hearing.{queue_heard}
-use Rattle.wq_script.proofs.seats.Seats.gather.Goals as goal
+use Rattle.wq_script.proofs.seats.Seats.publish.Goals as goal
 
 pub meet-requires : goal.meet-requires
 meet-requires c =
@@ -48,7 +48,7 @@ returns c =
     let last : StaysSilent y z = sees_stays 0 y z m2.sender in
     let both = moves_stay 0 s.worker w m2.worker in
     let t : Seats = record { worker = w; delay = f; senders = with_item c.meet_each.new.senders 0 z } in
-    let all : (told : List Event) → IsPrefix told e.sender.seen → Gathers told s t = λ told knows.
+    let all : (told : List Event) → IsPrefix told e.sender.seen → Publishes told s t = λ told knows.
     let heard : AllHear told q news = all_hear_less told e.sender.seen q news knows (all_hear_on e.sender.seen q (set q p k) news one me.senders) in
     let here : 0 < length news = omega (arith, c.requires.place, heard.count) in
     let worker : IsPrefix told w.seen = subst (λ (v : List Event). IsPrefix told v) m2.both (prefix_on told y.seen z.seen
