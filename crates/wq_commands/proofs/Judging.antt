@@ -8,7 +8,7 @@ use Rattle.wq_subcommand.specs.declared.failure.Failure.{Failure}
 use Rattle.wq_subcommand.specs.declared.failure.Failure.TheVariants as failure
 use Rattle.wq_subcommand.specs.Ending.{WritesPart, IsUnmade, Fails}
 use Rattle.wq_subcommand.proofs.Endings.{fails_unmade, fails_unwritten}
-use Rattle.wq_commands.specs.Judged.{WritesFinding, Says, IsSaid}
+use Rattle.wq_commands.specs.Judged.{WritesFinding, ReportsFinding, IsSaid}
 
 pub judges_at_end : (wants_drained : Bool) (status : ℕ) (remaining : Option (List ℕ))
     (finding : Result Finding (Failure ScriptError)) (before after : Option (List ℕ))
@@ -22,10 +22,10 @@ pub fails_unsaid : (remaining : Option (List ℕ)) (finding : Result Finding (Fa
     → IfOk finding (λ f. IfSome remaining (λ bytes. IsFoundOf bytes f))
     → IfErr finding (λ f. IfSome remaining (λ bytes. IsUnmade IsRefusedFor bytes f))
     → MatchResult finding (λ f. (cause ≡ failure.Unwritable) × WritesPart f.text.items before after) (λ f. cause ≡ f)
-    → IfSome remaining (λ bytes. Fails Says IsRefusedFor bytes before after cause)
+    → IfSome remaining (λ bytes. Fails ReportsFinding IsRefusedFor bytes before after cause)
 fails_unsaid None finding before after cause found none is = tt
 fails_unsaid (Some bytes) (Ok f) before after cause found none is =
-    fails_unwritten Says IsRefusedFor bytes f.text.items before after cause (record { finding = f; found = found; output_is = refl }) is
+    fails_unwritten ReportsFinding IsRefusedFor bytes f.text.items before after cause (record { finding = f; found = found; output_is = refl }) is
 fails_unsaid (Some bytes) (Err f) before after cause found none is =
-    subst (Fails Says IsRefusedFor bytes before after) (sym is)
-    (fails_unmade Says IsRefusedFor bytes before after f none)
+    subst (Fails ReportsFinding IsRefusedFor bytes before after) (sym is)
+    (fails_unmade ReportsFinding IsRefusedFor bytes before after f none)

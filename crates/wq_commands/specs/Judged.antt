@@ -27,7 +27,7 @@ pub record WritesFinding (wants_drained : Bool) (text : List ℕ) (status : ℕ)
   pub said : IsSaid wants_drained status before after finding
 
 -- the output says what is found of the text
-pub record Says (text output : List ℕ) : Type 0 where
+pub record ReportsFinding (text output : List ℕ) : Type 0 where
   pub finding : Finding
   pub found : IsFoundOf text finding
   pub output_is : output ≡ finding.text.items

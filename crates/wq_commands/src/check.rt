@@ -6,7 +6,7 @@ ghost use Rattle.wq_subcommand.specs.declared.failure.Failure.{Failure as Cause}
 ghost use Rattle.wq_subcommand.specs.declared.failure.Failure.TheVariants.{Unwritable};
 ghost use Rattle.wq_subcommand.specs.Failure.{status_of};
 ghost use Rattle.wq_subcommand.specs.Ending.{Fails, IsUnmade, IsUntouched, WritesPart};
-ghost use Rattle.wq_commands.specs.Judged.{WritesFinding, Says, IsSaid, of_check_error};
+ghost use Rattle.wq_commands.specs.Judged.{WritesFinding, ReportsFinding, IsSaid, of_check_error};
 
 use std::alloc::Global;
 use std::io::{BufRead, Write};
@@ -79,7 +79,7 @@ pub fn check_main<B: BufRead + Drop, W: Write, F: Write>(
     ensures judged { (result ≡ 0) ⊎ (result ≡ 4) → IfSome (B.remaining reader)
         (λ bytes. WritesFinding wants_drained bytes result (W.contents writer.old) (W.contents writer.new)) }
     ensures failed { result ≢ 0 → result ≢ 4 → (cause : Cause ScriptError) × (result ≡ status_of cause) × IsUntouched cause writer.old writer.new
-        × IfSome (B.remaining reader) (λ bytes. Fails Says IsRefusedFor bytes (W.contents writer.old) (W.contents writer.new) cause) }
+        × IfSome (B.remaining reader) (λ bytes. Fails ReportsFinding IsRefusedFor bytes (W.contents writer.old) (W.contents writer.new) cause) }
     ensures status { (result ≡ 0) ⊎ ((result ≡ 1) ⊎ ((result ≡ 3) ⊎ (result ≡ 4))) }
 {
     let finding = read_finding(alloc, &mut reader);
