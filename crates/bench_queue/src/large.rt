@@ -5,7 +5,7 @@ use crate::delays::seats;
 use crate::host::Host;
 use crate::owner::{execute_batch, queue_all};
 use crate::refusal::Refusal;
-use crate::runs::{Runs, shown};
+use crate::run_counter::{RunCounter, shown};
 use std::alloc::Global;
 use std::fs;
 use std::time::Instant;
@@ -17,18 +17,18 @@ use wq_worker::{Book, Worker};
 /// How many bytes a page of memory has on x86-64.
 const PAGE: u64 = 4096;
 
-/// How long a stage took over all items, and how many bytes of memory are resident more after it.
+/// How long a lap, a call or a few over all items, took, and how many bytes of memory are resident more after it.
 #[derive(Clone, Copy)]
-pub struct Stage {
+pub struct Lap {
     pub name: &'static str,
     pub nanos: u128,
     pub bytes: u64,
 }
 
-/// The stages that have ended, where the next one began, and what could not be had for one of them.
+/// The laps that have ended, where the next one began, and what could not be had for one of them.
 #[derive(Drop)]
-struct Stages {
-    ended: Vec<Stage>,
+struct Laps {
+    ended: Vec<Lap>,
     start: Instant,
     bytes: u64,
     refusal: Option<Refusal>,
@@ -42,10 +42,10 @@ fn resident<R: Host>(rt: &R) -> Result<u64, Refusal> {
     Ok(pages.saturating_mul(PAGE))
 }
 
-impl Stages {
-    fn begin<R: Host>(rt: &R) -> Result<Stages, Refusal> {
+impl Laps {
+    fn begin<R: Host>(rt: &R) -> Result<Laps, Refusal> {
         let bytes = resident(rt)?;
-        Ok(Stages {
+        Ok(Laps {
             ended: Vec::new(rt.alloc()),
             start: Instant::now(rt)?,
             bytes,
@@ -53,8 +53,8 @@ impl Stages {
         })
     }
 
-    /// Ends a stage, and begins the next. What cannot be had is said when all have ended: what is measured would else have an end of
-    /// its own at each stage, and be dropped there, which each is a case for the proof.
+    /// Ends a lap, and begins the next. What cannot be had is said when all have ended: what is measured would else have an end of
+    /// its own at each lap, and be dropped there, which each is a case for the proof.
     fn end<R: Host>(&mut self, rt: &R, name: &'static str) {
         if let Err(refusal) = self.try_end(rt, name) {
             self.refusal = Some(refusal);
@@ -64,7 +64,7 @@ impl Stages {
     fn try_end<R: Host>(&mut self, rt: &R, name: &'static str) -> Result<(), Refusal> {
         let nanos = self.start.elapsed(rt)?.as_nanos();
         let bytes = resident(rt)?;
-        self.ended.push(Stage {
+        self.ended.push(Lap {
             name,
             nanos,
             bytes: bytes.saturating_sub(self.bytes),
@@ -97,25 +97,25 @@ fn close(owner: &mut Owner) {
 }
 
 /// An owner finds all items on its list at a take, at a drain and at a close.
-fn measure_owner<R: Host>(rt: &R, stages: &mut Stages, items: u32) -> Result<(), Refusal> {
+fn measure_owner<R: Host>(rt: &R, laps: &mut Laps, items: u32) -> Result<(), Refusal> {
     let (mut owner, mut sender) = seats(rt.alloc(), items)?;
-    stages.end(rt, "build");
+    laps.end(rt, "build");
     queue_all(&mut sender);
-    stages.end(rt, "queue");
+    laps.end(rt, "queue");
     execute_batch(&mut owner, 0);
-    stages.end(rt, "take");
+    laps.end(rt, "take");
     execute_batch(&mut owner, u64::MAX);
-    stages.end(rt, "execute");
+    laps.end(rt, "execute");
     queue_all(&mut sender);
-    stages.end(rt, "queue");
+    laps.end(rt, "queue");
     drain(&mut owner);
-    stages.end(rt, "drain");
+    laps.end(rt, "drain");
     execute_batch(&mut owner, u64::MAX);
     resume(&mut owner);
     queue_all(&mut sender);
-    stages.end(rt, "execute, resume, queue");
+    laps.end(rt, "execute, resume, queue");
     close(&mut owner);
-    stages.end(rt, "close");
+    laps.end(rt, "close");
     Ok(())
 }
 
@@ -123,8 +123,8 @@ fn measure_owner<R: Host>(rt: &R, stages: &mut Stages, items: u32) -> Result<(),
 fn worker_and_sender(
     alloc: Global,
     items: u32,
-    work: Runs,
-) -> Result<(Worker<Runs>, Sender), Refusal>
+    work: RunCounter,
+) -> Result<(Worker<RunCounter>, Sender), Refusal>
     requires { work.ran.items ≡ [] }
     ensures { IfOk result (λ r. r.1.queue ≡ r.0.queue) }
 {
@@ -136,7 +136,7 @@ fn worker_and_sender(
 }
 
 /// The book of a worker, when all that is left has run.
-fn destroyed(worker: Worker<Runs>) -> Result<Book, Refusal>
+fn destroyed(worker: Worker<RunCounter>) -> Result<Book, Refusal>
     ensures { IfOk result (λ book. book.queue ≡ worker.queue) }
 {
     match worker.destroy(u32::MAX) {
@@ -159,30 +159,30 @@ fn balance(book: &mut Book, sender: &mut Sender) -> Result<(), Refusal>
 /// A worker with as many items is destroyed, and its sender meets the book that is left.
 fn measure_end<R: Host>(
     rt: &R,
-    stages: &mut Stages,
-    worker: Worker<Runs>,
+    laps: &mut Laps,
+    worker: Worker<RunCounter>,
     mut sender: Sender,
 ) -> Result<(), Refusal>
     requires { sender.queue ≡ worker.queue }
 {
     let mut book = destroyed(worker)?;
-    stages.end(rt, "destroy");
+    laps.end(rt, "destroy");
     balance(&mut book, &mut sender)?;
-    stages.end(rt, "ledgers");
+    laps.end(rt, "ledgers");
     Ok(())
 }
 
 /// A worker drains a queue of which all items wait, and is destroyed with as many.
-fn measure_worker<R: Host>(rt: &R, stages: &mut Stages, items: u32) -> Result<(), Refusal> {
-    let work = Runs::new(u64::MAX, shown(rt.alloc())?);
+fn measure_worker<R: Host>(rt: &R, laps: &mut Laps, items: u32) -> Result<(), Refusal> {
+    let work = RunCounter::new(u64::MAX, shown(rt.alloc())?);
     let (mut worker, mut sender) = worker_and_sender(rt.alloc(), items, work)?;
     queue_all(&mut sender);
-    stages.end(rt, "build of a worker, queue");
+    laps.end(rt, "build of a worker, queue");
     worker.drain(u32::MAX);
-    stages.end(rt, "drain of a worker");
+    laps.end(rt, "drain of a worker");
     queue_all(&mut sender);
-    stages.end(rt, "queue");
-    measure_end(rt, stages, worker, sender)
+    laps.end(rt, "queue");
+    measure_end(rt, laps, worker, sender)
 }
 
 /// Queues all items at ticks to come.
@@ -195,50 +195,50 @@ fn arm_all(delay: &mut Delay) {
 }
 
 /// A delay table lets all items go at once, keeps them in a drain, and lets them go after it.
-fn measure_advances<R: Host>(rt: &R, stages: &mut Stages, owner: &mut Owner, delay: &mut Delay) {
+fn measure_advances<R: Host>(rt: &R, laps: &mut Laps, owner: &mut Owner, delay: &mut Delay) {
     let _ = delay.advance(1024, 1);
-    stages.end(rt, "advance, all go out");
+    laps.end(rt, "advance, all go out");
     execute_batch(owner, u64::MAX);
     arm_all(delay);
     drain(owner);
-    stages.end(rt, "execute, arm, drain");
+    laps.end(rt, "execute, arm, drain");
     let _ = delay.advance(2048, 1);
-    stages.end(rt, "advance in a drain");
+    laps.end(rt, "advance in a drain");
     for tick in 2049..3073 {
         let _ = delay.advance(tick, 1);
     }
-    stages.end(rt, "1024 advances, all are late");
+    laps.end(rt, "1024 advances, all are late");
     resume(owner);
     let _ = delay.advance(3072, 1);
-    stages.end(rt, "advance after the resume");
+    laps.end(rt, "advance after the resume");
     execute_batch(owner, u64::MAX);
 }
 
 /// A delay table is made, advanced with all items armed, and dissolved with as many.
-fn measure_delay<R: Host>(rt: &R, stages: &mut Stages, items: u32) -> Result<(), Refusal> {
+fn measure_delay<R: Host>(rt: &R, laps: &mut Laps, items: u32) -> Result<(), Refusal> {
     let (mut owner, sender) = seats(rt.alloc(), items)?;
-    stages.end(rt, "build");
+    laps.end(rt, "build");
     let mut delay = Delay::new(rt.alloc(), sender, 0).map_err(|_| Refusal::Memory)?;
-    stages.end(rt, "table");
+    laps.end(rt, "table");
     arm_all(&mut delay);
-    stages.end(rt, "arm");
-    measure_advances(rt, stages, &mut owner, &mut delay);
+    laps.end(rt, "arm");
+    measure_advances(rt, laps, &mut owner, &mut delay);
     arm_all(&mut delay);
-    stages.end(rt, "execute, arm");
+    laps.end(rt, "execute, arm");
     delay.dissolve();
-    stages.end(rt, "dissolve");
+    laps.end(rt, "dissolve");
     Ok(())
 }
 
-/// What each stage took over so many items.
-pub fn measure<R: Host>(rt: &R, items: u32) -> Result<Vec<Stage>, Refusal> {
-    let mut stages = Stages::begin(rt)?;
-    measure_owner(rt, &mut stages, items)?;
-    stages.end(rt, "drop");
-    measure_worker(rt, &mut stages, items)?;
-    stages.end(rt, "drop");
-    measure_delay(rt, &mut stages, items)?;
-    let Stages { ended, refusal, .. } = stages;
+/// What each lap took over so many items.
+pub fn measure<R: Host>(rt: &R, items: u32) -> Result<Vec<Lap>, Refusal> {
+    let mut laps = Laps::begin(rt)?;
+    measure_owner(rt, &mut laps, items)?;
+    laps.end(rt, "drop");
+    measure_worker(rt, &mut laps, items)?;
+    laps.end(rt, "drop");
+    measure_delay(rt, &mut laps, items)?;
+    let Laps { ended, refusal, .. } = laps;
     match refusal {
         None => Ok(ended),
         Some(refusal) => Err(refusal),

@@ -3,7 +3,7 @@ use crate::host::Host;
 use crate::pace::Pace;
 use crate::posts::{offer, pause};
 use crate::refusal::Refusal;
-use crate::runs::{Runs, shown};
+use crate::run_counter::{RunCounter, shown};
 use crate::serve::serve;
 use crossbeam_utils::sync::{Parker, Unparker};
 use std::alloc::Global;
@@ -76,9 +76,9 @@ fn pass<R: Host>(rt: &R, gap: Duration) -> Result<(), Refusal> {
 }
 
 /// A worker of one item, and who rings it.
-fn pair(alloc: Global, unparker: Unparker) -> Result<(Worker<Runs>, Ringer), Refusal> {
+fn pair(alloc: Global, unparker: Unparker) -> Result<(Worker<RunCounter>, Ringer), Refusal> {
     let shown = shown(alloc)?;
-    let work = Runs::new(1, Arc::try_clone(&shown)?);
+    let work = RunCounter::new(1, Arc::try_clone(&shown)?);
     let (worker, mut senders) = Worker::build(alloc, Layout::new(1, 1, 2)?, work, 1)?;
     let sender = senders.pop().ok_or(Refusal::Memory)?;
     let ringer = Ringer {
@@ -94,7 +94,7 @@ fn pair(alloc: Global, unparker: Unparker) -> Result<(Worker<Runs>, Ringer), Ref
 fn ring_beside<'s, E, R: Host>(
     scope: &Scope<'s, E>,
     rt: &'s R,
-    mut worker: Worker<Runs>,
+    mut worker: Worker<RunCounter>,
     parker: Parker,
     mut ringer: Ringer,
     rounds: u32,

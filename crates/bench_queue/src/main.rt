@@ -22,40 +22,44 @@
 //! Without words it prints what came of a small load of each kind, which depends on no clock.
 #![tactic(auto)]
 
+mod benchmark;
+mod checker_input;
 mod delays;
 mod host;
 mod large;
 mod lone;
 mod owner;
 mod pace;
-mod plan;
 mod pool;
 mod posts;
 mod refusal;
-mod runs;
+mod run_counter;
 mod serve;
-mod told;
 mod values;
 
+use benchmark::{Benchmark, Load, Width};
+use checker_input::CheckerInput;
 use host::Host;
 use pace::Pace;
-use plan::{Load, Plan, Width};
+use pool::PoolLoad;
 use refusal::Refusal;
 use std::io;
 use std::process::ExitCode;
 use std::time::{Duration, Instant};
-use told::Told;
 use wq_live::Spins;
 
 /// Prints what depends on no clock.
 fn show_small<R: Host>(rt: &R) -> Result<(), Refusal> {
     let items = owner::run(rt, Load::small())?.items;
     let with_values = values::run(rt, Width::Word, Load::small())?.items;
-    let events = told::tell(rt.alloc(), Told::Events, 1_000)?;
-    let marks = told::tell(rt.alloc(), Told::Marks, 1_000)?;
-    let (ran, _picks) = pool::run(rt, pool::Load::small())?;
+    let events = checker_input::tell(rt.alloc(), CheckerInput::Events, 1_000)?;
+    let marks = checker_input::tell(rt.alloc(), CheckerInput::Marks, 1_000)?;
+    let (counts, _picks) = pool::run(rt, PoolLoad::small())?;
     println!(rt; "items {items}, with values {with_values}")?;
-    println!(rt; "items of a pool {}, strays {}", ran.items, ran.strays)?;
+    println!(rt;
+        "items of a pool {}, strays {}",
+        counts.items, counts.strays
+    )?;
     println!(rt; "events {events}, marks {marks}")?;
     Ok(())
 }
@@ -86,13 +90,13 @@ fn show_values<R: Host>(rt: &R, width: Width, mut load: Load) -> Result<(), Refu
 }
 
 /// The same of a pool that serves.
-fn show_pool<R: Host>(rt: &R, load: pool::Load) -> Result<(), Refusal> {
+fn show_pool<R: Host>(rt: &R, load: PoolLoad) -> Result<(), Refusal> {
     let start = Instant::now(rt)?;
-    let (ran, picks) = pool::run(rt, load)?;
+    let (counts, picks) = pool::run(rt, load)?;
     let nanos = start.elapsed(rt)?.as_nanos();
     println!(rt;
         "items {} nanos {nanos} picks {picks} strays {}",
-        ran.items, ran.strays
+        counts.items, counts.strays
     )?;
     Ok(())
 }
@@ -101,11 +105,11 @@ fn show_pool<R: Host>(rt: &R, load: pool::Load) -> Result<(), Refusal> {
 fn show_serve<R: Host>(rt: &R, mut load: Load) -> Result<(), Refusal> {
     load.spins = Spins::measured(rt)?;
     let start = Instant::now(rt)?;
-    let (items, calls) = serve::run(rt, load)?;
+    let (items, counts) = serve::run(rt, load)?;
     let nanos = start.elapsed(rt)?.as_nanos();
     println!(rt;
         "items {items} nanos {nanos} takes {} least {} unparks {}",
-        calls.firsts, calls.least, calls.unparks
+        counts.firsts, counts.least, counts.unparks
     )?;
     Ok(())
 }
@@ -136,52 +140,49 @@ fn show_delays<R: Host>(rt: &R, items: u32, rounds: u32) -> Result<(), Refusal> 
     Ok(())
 }
 
-/// Prints what each stage took over so many items.
+/// Prints what each lap took over so many items.
 fn show_large<R: Host>(rt: &R, items: u32) -> Result<(), Refusal> {
-    for stage in large::measure(rt, items)? {
-        println!(rt;
-            "{}: {} nanos, {} bytes",
-            stage.name, stage.nanos, stage.bytes
-        )?;
+    for lap in large::measure(rt, items)? {
+        println!(rt; "{}: {} nanos, {} bytes", lap.name, lap.nanos, lap.bytes)?;
     }
     Ok(())
 }
 
 /// Prints how long it took to tell a checker so much.
-fn show_told<R: Host>(rt: &R, what: Told, count: u64) -> Result<(), Refusal> {
+fn show_checker<R: Host>(rt: &R, input: CheckerInput, count: u64) -> Result<(), Refusal> {
     let start = Instant::now(rt)?;
-    let counted = told::tell(rt.alloc(), what, count)?;
+    let counted = checker_input::tell(rt.alloc(), input, count)?;
     let nanos = start.elapsed(rt)?.as_nanos();
-    println!(rt; "{} {counted} nanos {nanos}", what.name())?;
+    println!(rt; "{} {counted} nanos {nanos}", input.name())?;
     Ok(())
 }
 
-fn measure<R: Host>(rt: &R, plan: Plan) -> Result<(), Refusal> {
-    match plan {
-        Plan::Small => show_small(rt),
-        Plan::Owner(load) => show_owner(rt, load),
-        Plan::Serve(load) => show_serve(rt, load),
-        Plan::Lone {
+fn measure<R: Host>(rt: &R, benchmark: Benchmark) -> Result<(), Refusal> {
+    match benchmark {
+        Benchmark::Small => show_small(rt),
+        Benchmark::Owner(load) => show_owner(rt, load),
+        Benchmark::Serve(load) => show_serve(rt, load),
+        Benchmark::Lone {
             rounds,
             micros,
             pace,
         } => show_lone(rt, rounds, micros, pace),
-        Plan::Delays { items, rounds } => show_delays(rt, items, rounds),
-        Plan::Large(items) => show_large(rt, items),
-        Plan::Pool(load) => show_pool(rt, load),
-        Plan::Values(width, load) => show_values(rt, width, load),
-        Plan::Told(what, count) => show_told(rt, what, count),
+        Benchmark::Delays { items, rounds } => show_delays(rt, items, rounds),
+        Benchmark::Large(items) => show_large(rt, items),
+        Benchmark::Pool(load) => show_pool(rt, load),
+        Benchmark::Values(width, load) => show_values(rt, width, load),
+        Benchmark::Checker(input, count) => show_checker(rt, input, count),
     }
 }
 
 /// Measures what the words ask for, at the pace that the first one names: only what has such a pace.
 fn obey<R: Host>(rt: &R, words: &[String]) -> Result<(), Refusal> {
-    let plan = match words {
-        [word, rest @ ..] if word.as_str() == "eager" => Plan::at(rest, Pace::Eager)?,
-        [word, rest @ ..] if word.as_str() == "resting" => Plan::at(rest, Pace::Resting)?,
-        _ => Plan::at(words, Pace::Patient)?,
+    let benchmark = match words {
+        [word, rest @ ..] if word.as_str() == "eager" => Benchmark::at(rest, Pace::Eager)?,
+        [word, rest @ ..] if word.as_str() == "resting" => Benchmark::at(rest, Pace::Resting)?,
+        _ => Benchmark::at(words, Pace::Patient)?,
     };
-    measure(rt, plan)
+    measure(rt, benchmark)
 }
 
 fn main(rt: HostRuntime) -> io::Result<ExitCode> {

@@ -2,17 +2,17 @@
 ghost use Rattle.std.specs.Prelude.{◌≡◌, IsTrue};
 ghost use Rattle.wq_words.specs.History.{IsRunning};
 
+use crate::benchmark::Load;
 use crate::host::Host;
-use crate::plan::Load;
-use crate::posts::{Asks, join_all, set_spins, start};
+use crate::posts::{UnparkPolicy, join_all, set_spins, start};
 use crate::refusal::Refusal;
-use crate::runs::shown;
+use crate::run_counter::shown;
 use crossbeam_utils::sync::Parker;
 use wq_live::{Owner, Sender, build};
 
 /// How many executions ended, in how many takes that found something.
 #[derive(Clone, Copy, Default)]
-pub struct Counts {
+pub struct Throughput {
     pub items: u64,
     pub takes: u64,
     /// How many the sender queued that queued fewest.
@@ -69,8 +69,8 @@ pub fn queue_all(sender: &mut Sender)
 }
 
 /// Executes until so many items have ended. A sender that has no thread queues all items before each take.
-fn execute(owner: &mut Owner, mut alone: Option<Sender>, load: Load) -> Counts {
-    let mut counts = Counts::default();
+fn execute(owner: &mut Owner, mut alone: Option<Sender>, load: Load) -> Throughput {
+    let mut counts = Throughput::default();
     for _ in 0..u64::MAX {
         if counts.items >= load.total {
             break;
@@ -97,7 +97,7 @@ fn finish(owner: &mut Owner) {
 }
 
 /// Executes so many items while the senders queue, and then closes the queue and executes the rest, which ends them.
-pub fn run<R: Host>(rt: &R, load: Load) -> Result<Counts, Refusal> {
+pub fn run<R: Host>(rt: &R, load: Load) -> Result<Throughput, Refusal> {
     let (mut owner, mut senders) = build(rt.alloc(), load.layout(0)?)?;
     set_spins(&mut senders, load.spins);
     if load.senders == 0 {
@@ -109,7 +109,7 @@ pub fn run<R: Host>(rt: &R, load: Load) -> Result<Counts, Refusal> {
         rt,
         senders,
         load.slice,
-        Asks::Nobody,
+        UnparkPolicy::Nobody,
         parker.unparker(),
         &shown,
     )?;

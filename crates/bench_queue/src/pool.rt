@@ -20,7 +20,7 @@ use wq_worker::{Book, Worker};
 
 /// How many queues there are, how many threads serve them, how many senders queue on each, and about how many items in all.
 #[derive(Clone, Copy)]
-pub struct Load {
+pub struct PoolLoad {
     queues: u32,
     workers: u32,
     senders: u32,
@@ -29,15 +29,15 @@ pub struct Load {
 
 /// How many items ran, and how many of them out of their sender's order.
 #[derive(Clone, Copy)]
-pub struct Ran {
+pub struct PoolCounts {
     pub items: u64,
     pub strays: u64,
 }
 
-impl Load {
+impl PoolLoad {
     /// A load that takes no time.
-    pub fn small() -> Load {
-        Load {
+    pub fn small() -> PoolLoad {
+        PoolLoad {
             queues: 3,
             workers: 2,
             senders: 2,
@@ -46,11 +46,11 @@ impl Load {
     }
 
     /// A load with a worker and a sender at least.
-    pub fn new(queues: u32, workers: u32, senders: u32, total: u32) -> Result<Load, Refusal> {
+    pub fn new(queues: u32, workers: u32, senders: u32, total: u32) -> Result<PoolLoad, Refusal> {
         if workers == 0 || senders == 0 {
             return Err(Refusal::Words);
         }
-        Ok(Load {
+        Ok(PoolLoad {
             queues,
             workers,
             senders,
@@ -72,7 +72,7 @@ impl Load {
 }
 
 /// A queue that has done nothing, and its senders.
-fn new_queue(alloc: Global, load: Load) -> Result<(Served<InOrder>, Vec<Sender>), Refusal> {
+fn new_queue(alloc: Global, load: PoolLoad) -> Result<(Served<InOrder>, Vec<Sender>), Refusal> {
     let work = InOrder::new(alloc, load.senders)?;
     let (worker, senders) = Worker::build(alloc, load.layout()?, work, 1).map_err(|_| AllocError)?;
     Ok((Served::new(worker), senders))
@@ -81,7 +81,7 @@ fn new_queue(alloc: Global, load: Load) -> Result<(Served<InOrder>, Vec<Sender>)
 /// The queues, and the senders of each.
 fn new_queues(
     alloc: Global,
-    load: Load,
+    load: PoolLoad,
 ) -> Result<(Vec<Served<InOrder>>, Vec<Vec<Sender>>), Refusal> {
     let mut queues = Vec::new(alloc);
     let mut seats = Vec::new(alloc);
@@ -111,7 +111,7 @@ fn feeders<'p>(
     callers: &mut Vec<Caller>,
     mut seats: Vec<Vec<Sender>>,
     feeding: &'p AtomicU64,
-    load: Load,
+    load: PoolLoad,
 ) -> Result<Vec<Feeder<'p>>, AllocError>
     requires { All (IsCallerOf pool.now.ready) callers.old.items }
     ensures { All (IsCallerOf pool.now.ready) callers.new.items }
@@ -200,7 +200,7 @@ fn serve<R: Threads + Wait + Sync>(
     pool: &Pool<InOrder>,
     mut callers: Vec<Caller>,
     seats: Vec<Vec<Sender>>,
-    load: Load,
+    load: PoolLoad,
 ) -> Result<u64, Refusal>
     requires { All (IsCallerOf pool.now.ready) callers.items }
 {
@@ -215,21 +215,21 @@ fn serve<R: Threads + Wait + Sync>(
 }
 
 /// What the works of finished queues have counted.
-fn counted(finished: &[(InOrder, Book)]) -> Ran {
-    let mut ran = Ran {
+fn counted(finished: &[(InOrder, Book)]) -> PoolCounts {
+    let mut counts = PoolCounts {
         items: 0,
         strays: 0,
     };
     for (work, _book) in finished {
-        ran.items = ran.items.saturating_add(work.count());
-        ran.strays = ran.strays.saturating_add(work.strays());
+        counts.items = counts.items.saturating_add(work.count());
+        counts.strays = counts.strays.saturating_add(work.strays());
     }
-    ran
+    counts
 }
 
 /// Makes the queues and the pool, serves it while the senders queue their items and at last the stop items, and takes all apart.
 /// What ran, and how many picks that took.
-pub fn run<R: Host>(rt: &R, load: Load) -> Result<(Ran, u64), Refusal> {
+pub fn run<R: Host>(rt: &R, load: PoolLoad) -> Result<(PoolCounts, u64), Refusal> {
     let alloc = rt.alloc();
     let (queues, seats) = new_queues(alloc, load)?;
     let callers = load.workers.saturating_add(load.senders);

@@ -11,7 +11,7 @@ use wq_live::{Answer, Sender, Spins};
 
 /// Where a sender unparks the worker.
 #[derive(Clone, Copy, PartialEq, Eq)]
-pub enum Asks {
+pub enum UnparkPolicy {
     /// Nowhere: an owner looks again and again.
     Nobody,
     /// Where its push went onto an empty list.
@@ -23,7 +23,7 @@ pub enum Asks {
 /// What senders did: how many pushes went onto an empty list, how often they unparked the worker, and how many pushes the one made
 /// that made fewest.
 #[derive(Clone, Copy, Default)]
-pub struct Calls {
+pub struct PushCounts {
     pub firsts: u64,
     pub unparks: u64,
     pub least: u64,
@@ -34,10 +34,10 @@ pub struct Calls {
 struct Post {
     sender: Sender,
     slice: u32,
-    asks: Asks,
+    policy: UnparkPolicy,
     unparker: Unparker,
     shown: Arc<AtomicU64, Global>,
-    calls: Calls,
+    counts: PushCounts,
 }
 
 /// Passes some time between two tries of a number that is still pending.
@@ -72,10 +72,12 @@ impl Post {
     fn offer(&mut self, item: u32) -> bool {
         let answer = offer(&mut self.sender, item, pause);
         if let Answer::Queued { first, wakes } = answer {
-            self.calls.firsts = self.calls.firsts.saturating_add(u64::from(first));
-            self.calls.least = self.calls.least.saturating_add(1);
-            if (first && self.asks == Asks::First) || (wakes && self.asks == Asks::Wakes) {
-                self.calls.unparks = self.calls.unparks.saturating_add(1);
+            self.counts.firsts = self.counts.firsts.saturating_add(u64::from(first));
+            self.counts.least = self.counts.least.saturating_add(1);
+            if (first && self.policy == UnparkPolicy::First)
+                || (wakes && self.policy == UnparkPolicy::Wakes)
+            {
+                self.counts.unparks = self.counts.unparks.saturating_add(1);
                 self.unparker.unpark();
             }
         }
@@ -94,7 +96,7 @@ impl Post {
     }
 
     /// Queues its slice of items again and again until the end, and then the stop item.
-    fn feed(mut self) -> Calls {
+    fn feed(mut self) -> PushCounts {
         let from = self.sender.number().saturating_mul(self.slice);
         let to = from.saturating_add(self.slice);
         for _ in 0..u64::MAX {
@@ -104,7 +106,7 @@ impl Post {
         }
         self.sender.request_stop(u32::MAX);
         self.unparker.unpark();
-        self.calls
+        self.counts
     }
 }
 
@@ -120,19 +122,19 @@ pub fn start<R: Host>(
     rt: &R,
     senders: Vec<Sender>,
     slice: u32,
-    asks: Asks,
+    policy: UnparkPolicy,
     unparker: &Unparker,
     shown: &Arc<AtomicU64, Global>,
-) -> Result<Vec<JoinHandle<Calls>>, Refusal> {
+) -> Result<Vec<JoinHandle<PushCounts>>, Refusal> {
     let mut threads = Vec::new(rt.alloc());
     for sender in senders {
         let post = Post {
             sender,
             slice,
-            asks,
+            policy,
             unparker: unparker.clone()?,
             shown: Arc::try_clone(shown)?,
-            calls: Calls::default(),
+            counts: PushCounts::default(),
         };
         let thread = thread::spawn(rt, move || post.feed()).map_err(|_| Refusal::NoThread)?;
         threads.push(thread)?;
@@ -141,16 +143,16 @@ pub fn start<R: Host>(
 }
 
 /// What all senders did, when they have ended.
-pub fn join_all<R: Host>(rt: &R, threads: Vec<JoinHandle<Calls>>) -> Calls {
-    let mut all = Calls {
+pub fn join_all<R: Host>(rt: &R, threads: Vec<JoinHandle<PushCounts>>) -> PushCounts {
+    let mut all = PushCounts {
         least: u64::MAX,
-        ..Calls::default()
+        ..PushCounts::default()
     };
     for thread in threads {
-        let calls = thread.join(rt);
-        all.firsts = all.firsts.saturating_add(calls.firsts);
-        all.unparks = all.unparks.saturating_add(calls.unparks);
-        all.least = all.least.min(calls.least);
+        let counts = thread.join(rt);
+        all.firsts = all.firsts.saturating_add(counts.firsts);
+        all.unparks = all.unparks.saturating_add(counts.unparks);
+        all.least = all.least.min(counts.least);
     }
     all
 }

@@ -16,7 +16,7 @@ pub enum Refusal {
         pool QUEUES WORKERS SENDERS TOTAL | events N | marks N")]
     Words,
     /// More senders or items than a queue has.
-    #[error("plan: {0}")]
+    #[error("load: {0}")]
     Limits(#[from] LayoutError),
     /// No queue or more than a pool has, or memory for the pool.
     #[error("pool: {0}")]

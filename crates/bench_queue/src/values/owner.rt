@@ -1,8 +1,8 @@
 //! An owner that executes in this thread, what senders queue in threads of their own or one sender in turn with it.
 ghost use Rattle.wq_words.specs.History.{IsRunning};
 
+use crate::benchmark::Load;
 use crate::host::Host;
-use crate::plan::Load;
 use crate::refusal::Refusal;
 use crate::values::payload::Payload;
 use crate::values::posts::{join_all, offer, start};
@@ -12,7 +12,7 @@ use wq_values::{ValueOwner, ValueSender, build_values};
 /// How many executions ended, in how many takes that found something, what the values came to, and how many the sender queued that
 /// queued fewest.
 #[derive(Clone, Copy, Default)]
-pub struct Counts {
+pub struct ValueThroughput {
     pub items: u64,
     pub takes: u64,
     pub sum: u64,
@@ -72,8 +72,8 @@ fn execute<V: Payload>(
     owner: &mut ValueOwner<V>,
     mut alone: Option<ValueSender<V>>,
     load: Load,
-) -> Counts {
-    let mut counts = Counts::default();
+) -> ValueThroughput {
+    let mut counts = ValueThroughput::default();
     for _ in 0..u64::MAX {
         if counts.items >= load.total {
             break;
@@ -92,7 +92,7 @@ fn execute<V: Payload>(
 }
 
 // Closes the queue and executes what is left of it, so that no sender waits for an item that would be pending for ever.
-fn finish<V: Payload>(owner: &mut ValueOwner<V>, counts: &mut Counts) {
+fn finish<V: Payload>(owner: &mut ValueOwner<V>, counts: &mut ValueThroughput) {
     if !owner.is_closed() {
         owner.close();
     }
@@ -107,7 +107,7 @@ fn set_spins<V: Payload>(senders: &mut [ValueSender<V>], spins: Spins) {
 }
 
 /// Executes so many items while the senders queue, and then closes the queue and executes the rest, which ends them.
-pub fn run<R: Host, V: Payload + 'static>(rt: &R, load: Load) -> Result<Counts, Refusal> {
+pub fn run<R: Host, V: Payload + 'static>(rt: &R, load: Load) -> Result<ValueThroughput, Refusal> {
     let (mut owner, mut senders) = build_values::<V>(rt.alloc(), load.layout(0)?)?;
     set_spins(&mut senders, load.spins);
     if load.senders == 0 {

@@ -6,7 +6,7 @@ use wq_words::{Event, Layout};
 
 /// What a checker of recordings is told.
 #[derive(Clone, Copy, PartialEq, Eq)]
-pub enum Told {
+pub enum CheckerInput {
     /// Events of a history.
     Events,
     /// Marks of a trace.
@@ -42,11 +42,11 @@ fn mark_at(place: u64) -> Mark {
     }
 }
 
-impl Told {
+impl CheckerInput {
     pub fn name(self) -> &'static str {
         match self {
-            Told::Events => "events",
-            Told::Marks => "marks",
+            CheckerInput::Events => "events",
+            CheckerInput::Marks => "marks",
         }
     }
 }
@@ -74,9 +74,9 @@ fn marks(alloc: Global, count: u64) -> Result<u64, Refusal> {
 }
 
 /// Tells a checker so much. How much it counted.
-pub fn tell(alloc: Global, what: Told, count: u64) -> Result<u64, Refusal> {
-    match what {
-        Told::Events => events(alloc, count),
-        Told::Marks => marks(alloc, count),
+pub fn tell(alloc: Global, input: CheckerInput, count: u64) -> Result<u64, Refusal> {
+    match input {
+        CheckerInput::Events => events(alloc, count),
+        CheckerInput::Marks => marks(alloc, count),
     }
 }

@@ -14,18 +14,18 @@ pub fn shown(alloc: Global) -> Result<Arc<AtomicU64, Global>, AllocError> {
 
 /// A work that shows how many items it has run from so many on, and asks for nothing to follow.
 #[derive(Drop)]
-pub struct Runs {
+pub struct RunCounter {
     ran: Trail,
     count: u64,
     from: u64,
     shown: Arc<AtomicU64, Global>,
 }
 
-impl Runs {
-    pub fn new(from: u64, shown: Arc<AtomicU64, Global>) -> Runs
+impl RunCounter {
+    pub fn new(from: u64, shown: Arc<AtomicU64, Global>) -> RunCounter
         ensures none { result.ran.items ≡ [] }
     {
-        Runs {
+        RunCounter {
             ran: Trail::new(),
             count: 0,
             from,
@@ -39,7 +39,7 @@ impl Runs {
     }
 }
 
-impl Work for Runs {
+impl Work for RunCounter {
     ghost log = { λ w. w.ran.items };
 
     ghost may = { λ w k follow v. follow ≡ [] };

@@ -1,14 +1,14 @@
 //! What is measured.
+use crate::checker_input::CheckerInput;
 use crate::pace::Pace;
-use crate::pool;
+use crate::pool::PoolLoad;
 use crate::refusal::Refusal;
-use crate::told::Told;
 use wq_live::Spins;
 use wq_words::{Layout, LayoutError};
 
 /// What the words ask for.
 #[derive(Clone, Copy)]
-pub enum Plan {
+pub enum Benchmark {
     /// A small load of each kind, of which what is printed depends on no clock.
     Small,
     /// A load that an owner executes.
@@ -29,11 +29,11 @@ pub enum Plan {
     /// So many items of one queue, all of which each call goes over.
     Large(u32),
     /// A load that a pool's workers serve.
-    Pool(pool::Load),
+    Pool(PoolLoad),
     /// A load that an owner executes, of items that bring a value.
     Values(Width, Load),
     /// So much that a checker of recordings is told.
-    Told(Told, u64),
+    Checker(CheckerInput, u64),
 }
 
 /// How wide a value is.
@@ -78,40 +78,41 @@ impl Width {
     }
 }
 
-impl Plan {
-    fn told(what: Told, words: &[String]) -> Result<Plan, Refusal> {
+impl Benchmark {
+    fn checker(input: CheckerInput, words: &[String]) -> Result<Benchmark, Refusal> {
         let [count, ..] = numbers(words, 1)?;
-        Ok(Plan::Told(what, u64::from(count)))
+        Ok(Benchmark::Checker(input, u64::from(count)))
     }
 
     /// Whether it is measured at this pace: each is at the patient one, which needs no word.
     fn goes_at(self, pace: Pace) -> bool {
         match self {
-            Plan::Serve(_) => true,
-            Plan::Owner(_) | Plan::Lone { .. } | Plan::Values(..) => pace != Pace::Resting,
+            Benchmark::Serve(_) => true,
+            Benchmark::Owner(_) | Benchmark::Lone { .. } | Benchmark::Values(..) => pace
+                != Pace::Resting,
             _ => pace == Pace::Patient,
         }
     }
 
-    /// The plan that words spell, at a pace that it has.
-    pub fn at(words: &[String], pace: Pace) -> Result<Plan, Refusal> {
-        let plan = Plan::read(words, pace)?;
-        if plan.goes_at(pace) {
-            Ok(plan)
+    /// What words ask for, at a pace that it has.
+    pub fn at(words: &[String], pace: Pace) -> Result<Benchmark, Refusal> {
+        let benchmark = Benchmark::read(words, pace)?;
+        if benchmark.goes_at(pace) {
+            Ok(benchmark)
         } else {
             Err(Refusal::Words)
         }
     }
 
-    fn read(words: &[String], pace: Pace) -> Result<Plan, Refusal> {
+    fn read(words: &[String], pace: Pace) -> Result<Benchmark, Refusal> {
         let Some((name, rest)) = words.split_first() else {
-            return Ok(Plan::Small);
+            return Ok(Benchmark::Small);
         };
         match name.as_str() {
-            "serve" => Ok(Plan::Serve(Load::read(rest, pace)?)),
+            "serve" => Ok(Benchmark::Serve(Load::read(rest, pace)?)),
             "lone" => {
                 let [rounds, micros, ..] = numbers(rest, 2)?;
-                Ok(Plan::Lone {
+                Ok(Benchmark::Lone {
                     rounds,
                     micros,
                     pace,
@@ -119,25 +120,25 @@ impl Plan {
             }
             "delays" => {
                 let [items, rounds, ..] = numbers(rest, 2)?;
-                Ok(Plan::Delays { items, rounds })
+                Ok(Benchmark::Delays { items, rounds })
             }
             "large" => {
                 let [items, ..] = numbers(rest, 1)?;
-                Ok(Plan::Large(items))
+                Ok(Benchmark::Large(items))
             }
             "pool" => {
                 let [queues, workers, senders, total] = numbers(rest, 4)?;
-                Ok(Plan::Pool(pool::Load::new(queues, workers, senders, total)?))
+                Ok(Benchmark::Pool(PoolLoad::new(queues, workers, senders, total)?))
             }
             "values" => {
                 let Some((bytes, load)) = rest.split_first() else {
                     return Err(Refusal::Words);
                 };
-                Ok(Plan::Values(Width::read(bytes)?, Load::read(load, pace)?))
+                Ok(Benchmark::Values(Width::read(bytes)?, Load::read(load, pace)?))
             }
-            "events" => Plan::told(Told::Events, rest),
-            "marks" => Plan::told(Told::Marks, rest),
-            _ => Ok(Plan::Owner(Load::read(words, pace)?)),
+            "events" => Benchmark::checker(CheckerInput::Events, rest),
+            "marks" => Benchmark::checker(CheckerInput::Marks, rest),
+            _ => Ok(Benchmark::Owner(Load::read(words, pace)?)),
         }
     }
 }
