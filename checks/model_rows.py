@@ -25,16 +25,17 @@ class Models(Runner):
         return status, output.encode(), said.encode()
 
 
-def is_modelled(rows):
-    """Whether all rows of a file are of commands that have a model."""
+def modelled(rows):
+    """Of each command that a file names, whether it has a model."""
     commands = [line.removeprefix("command ") for line in rows.read_text().splitlines() if line.startswith("command ")]
-    return all(command in KINDS for command in commands)
+    return [command in KINDS for command in commands]
 
 
 def main():
     models = Models()
-    files = [rows for rows in sorted((Path(__file__).parent / "rows").glob("*.rows")) if is_modelled(rows)]
-    faults = [fault for rows in files for fault in faults_in(models, rows)]
+    files = [rows for rows in sorted((Path(__file__).parent / "rows").glob("*.rows")) if any(modelled(rows))]
+    faults = [f"{rows.name}: rows without a model stand among others, which would not be read" for rows in files if not all(modelled(rows))]
+    faults += [fault for rows in files if all(modelled(rows)) for fault in faults_in(models, rows)]
     print("\n".join([*faults, f"model rows: {models.count} texts of {len(files)} files, {len(faults)} not as the models say"]))
     return 1 if faults or not files else 0
 
