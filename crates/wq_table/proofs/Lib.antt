@@ -21,5 +21,4 @@ pub mod Meetings
 pub mod SlotTold
 pub mod SlotMet
 pub mod SlotJoined
-pub mod SlotMade
 pub mod SlotMetAll

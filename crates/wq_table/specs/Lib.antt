@@ -6,3 +6,4 @@ pub mod Beside
 pub mod Slots
 pub mod SlotSteps
 pub mod SlotChairs
+pub mod Making
