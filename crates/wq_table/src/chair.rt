@@ -1,5 +1,5 @@
 //! The seats of a queue, and their atomic steps.
-ghost use Rattle.std.specs.Prelude.{◌≡◌, ℕ, ◌+◌, ◌%◌, ◌^◌, ◌<◌, ◌==◌, [], ◌∷◌, Some, None, length, bit_or, bit_and};
+ghost use Rattle.std.specs.Prelude.{◌≡◌, ℕ, ◌+◌, ◌%◌, ◌^◌, ◌<◌, ◌==◌, [], ◌∷◌, ◌++◌, Some, None, length, bit_or, bit_and};
 ghost use prog.Atomic.{either};
 ghost use Rattle.wq_words.specs.Numbers.{number_count};
 ghost use Rattle.wq_words.specs.Valued.{Carries};
@@ -17,7 +17,7 @@ use super::table::{
     GivesUp, Kind, Links, Looks, Makes, Marks, Meets, Off, Place, Pushes, Rests, Resumes, Stores,
     Takes, Turns, Walks,
 };
-use super::values::{Brings, Nothing, Says, Seated, Words};
+use super::values::{Brings, Nothing, Says, Seated, SharedWords, Words};
 use std::marker::{Brand, Model};
 use std::mem::replace;
 use std::sync::Arc;
@@ -44,6 +44,20 @@ impl<V> Model for Chair<V> {
     ghost view = { value_standing };
 
     ghost invariant = { ValueSits };
+}
+
+// The seat speaks for all that the other spoke for, too, which comes in front, and the other speaks for nobody.
+fn take_in<V>(table: &SharedWords<V>, seat: &mut Seated<V>, other: &mut Seated<V>)
+    requires words { 0 < table.now.table_id.words }
+    requires seat { seat.old.table_id ≡ table.now.table_id }
+    requires other { other.old.table_id ≡ table.now.table_id }
+    requires empty { other.old.me.1 ≡ [] }
+    ensures queue { seat.new.table_id ≡ seat.old.table_id }
+    ensures parts { seat.new.me ≡ (other.old.me.0 ++ seat.old.me.0, seat.old.me.1) }
+{
+    let blank: Seated<V> = table.split_seat::<Blank>(seat);
+    let theirs = replace(other, blank);
+    table.join_seat::<Both>(seat, theirs);
 }
 
 // One operation each on the word at a place. The kind says which step of the seat it is.
@@ -407,9 +421,8 @@ impl<V> Chair<V> {
         ensures met { ValueMeet self.old other.old self.new other.new }
     {
         let table = &self.words.shared;
-        let blank: Seated<V> = table.split_seat::<Blank>(&mut self.seat);
-        let theirs = replace(&mut other.seat, blank);
-        table.join_seat::<Both>(&mut self.seat, theirs);
+        let theirs = &mut other.seat;
+        take_in(table, &mut self.seat, theirs);
         table.load::<Meets>(&mut self.seat, done_place(self.layout));
         other.seat = table.split_seat::<Off>(&mut self.seat);
     }
@@ -424,12 +437,8 @@ impl<V> Chair<V> {
         ensures all { ValueMeetAll self.old other.old third.old self.new other.new third.new }
     {
         let table = &self.words.shared;
-        let blank: Seated<V> = table.split_seat::<Blank>(&mut self.seat);
-        let others = replace(&mut other.seat, blank);
-        let blank: Seated<V> = table.split_seat::<Blank>(&mut self.seat);
-        let thirds = replace(&mut third.seat, blank);
-        table.join_seat::<Both>(&mut self.seat, others);
-        table.join_seat::<Both>(&mut self.seat, thirds);
+        take_in(table, &mut self.seat, &mut other.seat);
+        take_in(table, &mut self.seat, &mut third.seat);
         table.load::<Meets>(&mut self.seat, done_place(self.layout));
         third.seat = table.split_seat::<Off>(&mut self.seat);
         other.seat = table.split_seat::<Off>(&mut self.seat);

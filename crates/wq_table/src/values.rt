@@ -1,6 +1,6 @@
 //! What the seats of a queue know of what its items bring: the rule of the table, and what each step tells the seat that makes it.
 use super::table::{Blank, Both, Kind, Law, Makes, Meets, Off, Part, Place, Stores};
-use atomic_table::{Join, Play, Seat, Split, Table, TableRule};
+use atomic_table::{Join, Play, Seat, Shared, Split, Table, TableRule};
 use std::alloc::Global;
 use std::marker::{Brand, PhantomData};
 use trail::GhostList;
@@ -21,6 +21,8 @@ impl<V> TableRule<Option<V>, GhostList<ValuePart<V>>, Layout> for Law {
 
     ghost first = { opening_values };
 }
+
+pub(crate) type SharedWords<V> = Shared<Option<V>, GhostList<ValuePart<V>>, Layout, Law>;
 
 pub(crate) type Words<V> = Table<Option<V>, GhostList<ValuePart<V>>, Layout, Law, Global>;
 
