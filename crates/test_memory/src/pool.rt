@@ -64,6 +64,12 @@ fn have_run(finished: &[(Counter, Book)], runs: u32) -> bool {
     all
 }
 
+/// Drops what is left, by a call: written out, all the parts of a pool would stand in each place where it is dropped.
+fn wrong<T: Drop>(left: T) -> Said {
+    drop(left);
+    Said::Wrong
+}
+
 /// Takes the pool apart, for which memory was wanting before. No queue was touched then: each takes its item once more.
 fn finish_again(pool: Pool<Counter>, one: &mut Sender, two: &mut Sender) -> Said {
     let are_queued = is_queued(one) && is_queued(two);
@@ -73,7 +79,7 @@ fn finish_again(pool: Pool<Counter>, one: &mut Sender, two: &mut Sender) -> Said
         } else {
             Said::Wrong
         },
-        Err(_fault) => Said::Wrong,
+        Err(fault) => wrong(fault),
     }
 }
 
@@ -82,7 +88,7 @@ fn finish(pool: Pool<Counter>, one: &mut Sender, two: &mut Sender) -> Said {
     match pool.finish(9) {
         Ok(finished) => right(have_run(&finished, 2)),
         Err(PoolFault::Memory { pool }) => finish_again(pool, one, two),
-        Err(_fault) => Said::Wrong,
+        Err(fault) => wrong(fault),
     }
 }
 
@@ -115,8 +121,12 @@ fn is_served_by_hand<T: Wait>(
     let Some(turn) = pool.pick(rt, caller) else {
         return false;
     };
-    let Ok(worked) = turn.work(1, &NoGate) else {
-        return false;
+    let worked = match turn.work(1, &NoGate) {
+        Ok(worked) => worked,
+        Err(turn) => {
+            drop(turn);
+            return false;
+        }
     };
     let is_this = worked.queue() == queue;
     pool.put_back(caller, worked);
@@ -128,40 +138,50 @@ fn is_quiet<T: Wait>(rt: &T, pool: &Pool<Counter>, caller: &mut Caller) -> bool
     requires { IsCallerOf pool.now.ready caller.old }
 {
     let woken = pool.wake(rt, caller, 0, Answer::Pending);
-    woken.is_ok() && pool.pick(rt, caller).is_none()
+    let picked = pool.pick(rt, caller);
+    let is_none = picked.is_none();
+    drop(picked);
+    woken.is_ok() && is_none
 }
 
 /// Serves a pool of two queues by its one caller, and takes it apart.
 fn serve_both<T: Threads + Wait + Sync>(
     rt: &T,
     pool: Pool<Counter>,
-    mut callers: Vec<Caller>,
-    mut one: Sender,
-    mut two: Sender,
+    callers: &mut Vec<Caller>,
+    one: &mut Sender,
+    two: &mut Sender,
 ) -> Said
-    requires { All (IsCallerOf pool.ready) callers.items }
+    requires { All (IsCallerOf pool.ready) callers.old.items }
 {
     let Some(mut caller) = callers.pop() else {
-        return Said::Wrong;
+        return wrong(pool);
     };
     if is_served(rt, &pool, &mut caller)
-        && is_served_by_hand(rt, &pool, &mut caller, &mut one, 0)
-        && is_served_by_hand(rt, &pool, &mut caller, &mut two, 1)
+        && is_served_by_hand(rt, &pool, &mut caller, one, 0)
+        && is_served_by_hand(rt, &pool, &mut caller, two, 1)
         && is_quiet(rt, &pool, &mut caller)
     {
-        finish(pool, &mut one, &mut two)
+        finish(pool, one, two)
     } else {
-        Said::Wrong
+        wrong(pool)
     }
 }
 
 /// Makes a pool of two queues, serves both to their stop items and then by hand, and takes it apart.
 pub fn serve_pool<T: Threads + Wait + Sync>(rt: &T, alloc: Global) -> Said {
-    let Some(Two { queues, one, two }) = two_queues(alloc) else {
+    let Some(
+        Two {
+            queues,
+            mut one,
+            mut two,
+        },
+    ) = two_queues(alloc)
+    else {
         return Said::Memory;
     };
     match Pool::new(alloc, queues, 1) {
-        Ok((pool, callers)) => serve_both(rt, pool, callers, one, two),
+        Ok((pool, mut callers)) => serve_both(rt, pool, &mut callers, &mut one, &mut two),
         Err(PoolError::Memory) => Said::Memory,
         Err(PoolError::NoQueue) => Said::Wrong,
     }
