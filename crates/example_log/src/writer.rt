@@ -1,5 +1,5 @@
 //! What a log's queue runs.
-ghost use Rattle.std.specs.Prelude.{◌≡◌, [], IfSome};
+ghost use Rattle.std.specs.Prelude.{◌≡◌, ◌∷◌, ◌++◌, [], IfSome};
 ghost use Rattle.example_log.specs.Text.{text_of};
 
 use crate::message::Line;
@@ -46,6 +46,15 @@ impl Writer {
         }
     }
 
+    // Writes a line behind those before it, if memory can be had for it, and counts it as run.
+    fn append(&mut self, item: u32, line: &Line)
+        ensures ran { self.new.ran ≡ self.old.ran ++ (item, line.now) ∷ [] }
+        ensures came_back { self.new.came_back ≡ self.old.came_back }
+    {
+        self.ran = self.ran.and(item, line);
+        self.is_whole = self.is_whole && self.text.extend_from_slice(line.as_slice()).is_ok();
+    }
+
     // The text of all lines, if memory could be had for each.
     pub(crate) fn into_text(self) -> Option<Vec<u8>>
         ensures { IfSome result (λ text. text.items ≡ text_of self.ran) }
@@ -64,8 +73,7 @@ impl ValueWork<Line> for Writer {
     ghost takes = { λ w k line u. Unit {0} };
 
     fn run(&mut self, item: u32, line: Line) -> ValueFollow<Line> {
-        self.ran = self.ran.and(item, &line);
-        self.is_whole = self.is_whole && self.text.extend_from_slice(line.as_slice()).is_ok();
+        self.append(item, &line);
         ValueFollow::new()
     }
 
