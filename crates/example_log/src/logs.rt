@@ -176,6 +176,22 @@ fn both_of(finished: Vec<Finished>) -> (Finished, Finished)
     (one, two)
 }
 
+// Takes a pool of both logs apart, and says of its workers that they queued nothing.
+fn finish_both<R: Wait>(
+    rt: &R,
+    pool: ValuePool<Line, Writer>,
+) -> Result<(Finished, Finished), LogError>
+    requires two { length pool.workers ≡ 2 }
+    requires fresh { AllByRecursion (λ old. IsUnused 3 old.worker) pool.states }
+    ensures finished { IfOk result (λ r. AreFinishedBy (λ b. b.book) (λ work b. HasRunPairs (λ w. w.ran) b.brought work b.book)
+        pool.workers (r.0 ∷ r.1 ∷ [])) }
+    ensures quiet { IfOk result (λ r. IsQuiet 3 r.0.1.book.seen × IsQuiet 3 r.1.1.book.seen) }
+{
+    nothing_is_queued::<Line, Writer>();
+    let finished = finish(rt, pool)?;
+    Ok(both_of(finished))
+}
+
 // The workers write both logs while the clients send, and then the pool is taken apart.
 fn served<R: Threads + Wait + Sync>(
     rt: &R,
@@ -194,10 +210,9 @@ fn served<R: Threads + Wait + Sync>(
     ensures quiet { IfOk result (λ r. IsQuiet 3 r.0.0.1.book.seen × IsQuiet 3 r.0.1.1.book.seen) }
     ensures sent { IfOk result (λ r. HaveSent clients first.items second.items r.1) }
 {
-    nothing_is_queued::<Line, Writer>();
     let sent = serve(rt, &pool, workers, clients, first, second)?;
-    let finished = finish(rt, pool)?;
-    Ok((both_of(finished), sent))
+    let finished = finish_both(rt, pool)?;
+    Ok((finished, sent))
 }
 
 /// Two new logs of this size, which two threads write, while two clients send their messages in threads of their own. When these

@@ -1,7 +1,7 @@
 use Rattle.std.proofs.Common.{subst}
 use Rattle.std.specs.List.{AllByRecursion}
 use Rattle.wq_value_pool.specs.Quiet.{IsQuiet}
-use Rattle.example_log.proofs.logs.served.Goals as goal
+use Rattle.example_log.proofs.logs.finish_both.Goals as goal
 
 pub returns-clause-quiet : goal.returns-clause-quiet
 returns-clause-quiet g c =
