@@ -147,6 +147,14 @@ fn serve<R: Threads + Wait + Sync>(
     )
 }
 
+// Drops a pool whose logs are not written, here alone, since it has many parts. The error comes back.
+fn give_up(pool: ValuePool<Line, Writer>, error: LogError) -> LogError
+    ensures same { result ≡ error }
+{
+    drop(pool);
+    error
+}
+
 // Takes the pool apart. Where something is left of a queue it goes on.
 fn finish<R: Wait>(rt: &R, pool: ValuePool<Line, Writer>) -> Result<Vec<Finished>, LogError>
     ensures finished { IfOk result (λ all. AreFinishedBy (λ b. b.book) (λ work b. HasRunPairs (λ w. w.ran) b.brought work b.book)
@@ -160,8 +168,10 @@ fn finish<R: Wait>(rt: &R, pool: ValuePool<Line, Writer>) -> Result<Vec<Finished
         match pool.finish(LINES) {
             Ok(all) => return Ok(all),
             Err(ValuePoolFault::Unfinished { pool: same, .. }) => pool = same,
-            Err(ValuePoolFault::Out { queue, .. }) => return Err(LogError::Out { queue }),
-            Err(ValuePoolFault::Memory { .. }) => return Err(LogError::Memory),
+            Err(ValuePoolFault::Out { pool, queue }) => {
+                return Err(give_up(pool, LogError::Out { queue }));
+            }
+            Err(ValuePoolFault::Memory { pool }) => return Err(give_up(pool, LogError::Memory)),
         }
     }
     unreachable!()
@@ -192,7 +202,8 @@ fn finish_both<R: Wait>(
     Ok(both_of(finished))
 }
 
-// The workers write both logs while the clients send, and then the pool is taken apart.
+// The workers write both logs while the clients send, and then the pool is taken apart. What is dropped has many parts, so a call
+// drops it.
 fn served<R: Threads + Wait + Sync>(
     rt: &R,
     pool: ValuePool<Line, Writer>,
@@ -210,9 +221,17 @@ fn served<R: Threads + Wait + Sync>(
     ensures quiet { IfOk result (λ r. IsQuiet 3 r.0.0.1.book.seen × IsQuiet 3 r.0.1.1.book.seen) }
     ensures sent { IfOk result (λ r. HaveSent clients first.items second.items r.1) }
 {
-    let sent = serve(rt, &pool, workers, clients, first, second)?;
-    let finished = finish_both(rt, pool)?;
-    Ok((finished, sent))
+    let sent = match serve(rt, &pool, workers, clients, first, second) {
+        Ok(sent) => sent,
+        Err(error) => return Err(give_up(pool, error)),
+    };
+    match finish_both(rt, pool) {
+        Ok(finished) => Ok((finished, sent)),
+        Err(error) => {
+            drop(sent);
+            Err(error)
+        }
+    }
 }
 
 /// Two new logs of this size, which two threads write, while two clients send their messages in threads of their own. When these
