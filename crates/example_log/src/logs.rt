@@ -116,7 +116,13 @@ fn write_and_send<'s, E, R: Threads + Wait + Sync>(
     requires queues { 2 ≤ length pool.now.workers }
     ensures { IfOk result (HaveSent clients first.items second.items) }
 {
-    let writing = start_workers(scope, rt, pool, workers)?;
+    let writing = match start_workers(scope, rt, pool, workers) {
+        Ok(writing) => writing,
+        Err(error) => {
+            drop(clients);
+            return Err(error);
+        }
+    };
     let sent = send_both(rt, pool, clients, first, second);
     writing.join(rt);
     Ok(sent)

@@ -15,7 +15,11 @@ pub fn run_threads<T: Threads + Wait + Sync>(rt: &T, alloc: Global) -> Said {
         return Said::Wrong;
     };
     match example_threads::run(rt, alloc, layout, 4) {
-        Ok(met) => right(matches!(met.owner.done(), Some(Done { ended: 13 }))),
+        Ok(met) => {
+            let is_done = matches!(met.owner.done(), Some(Done { ended: 13 }));
+            drop(met);
+            right(is_done)
+        }
         Err(BuildError::Memory) => Said::Memory,
     }
 }

@@ -42,7 +42,11 @@ pub fn write_logs<T: Threads + Wait + Sync>(rt: &T, alloc: Global) -> Said {
         return Said::Memory;
     };
     match write(rt, alloc, layout, first, second) {
-        Ok((access, errors)) => right(is_whole(&access) && is_whole(&errors)),
+        Ok((access, errors)) => {
+            let are_whole = is_whole(&access) && is_whole(&errors);
+            drop((access, errors));
+            right(are_whole)
+        }
         Err(LogError::Memory) => Said::Memory,
         Err(LogError::Thread) => Said::Thread,
         Err(LogError::Out { .. }) => Said::Wrong,

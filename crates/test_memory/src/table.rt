@@ -1,5 +1,5 @@
 //! A delay table, from its making to its end.
-ghost use Rattle.std.specs.Prelude.{◌≡◌};
+ghost use Rattle.std.specs.Prelude.{◌≡◌, []};
 
 use crate::calls::Said;
 use std::alloc::Global;
@@ -109,22 +109,46 @@ fn use_table(mut delay: Delay, other: Sender) -> Said
     }
 }
 
+/// Makes a table over a sender for which memory was wanting before.
+fn make_again(alloc: Global, sender: Sender) -> Said
+    requires { sender.seen ≡ [] }
+{
+    let made = Delay::new(alloc, sender, 0);
+    let said = if made.is_ok() {
+        Said::Again
+    } else {
+        Said::Wrong
+    };
+    drop(made);
+    said
+}
+
+/// Makes a table over a sender of a queue, fills it, and dissolves it beside another one.
+fn make_over(alloc: Global, sender: Sender, other: Sender) -> Said
+    requires queue { sender.queue ≡ other.queue }
+    requires new { sender.seen ≡ [] }
+{
+    match Delay::new(alloc, sender, 0) {
+        Ok(delay) => use_table(delay, other),
+        Err(NoRoom { sender }) => {
+            drop(other);
+            make_again(alloc, sender)
+        }
+    }
+}
+
 /// Makes a table over a sender of a queue, fills it, and dissolves it.
 pub fn make_table(alloc: Global) -> Said {
     let Ok(layout) = Layout::new(ITEMS, 1, 2) else {
         return Said::Wrong;
     };
-    let Ok((_owner, mut senders)) = build(alloc, layout) else {
+    let Ok((owner, mut senders)) = build(alloc, layout) else {
         return Said::Memory;
     };
-    let (Some(sender), Some(other)) = (senders.pop(), senders.pop()) else {
-        return Said::Wrong;
+    let said = match (senders.pop(), senders.pop()) {
+        (Some(sender), Some(other)) => make_over(alloc, sender, other),
+        _ => Said::Wrong,
     };
-    match Delay::new(alloc, sender, 0) {
-        Ok(delay) => use_table(delay, other),
-        Err(NoRoom { sender }) => match Delay::new(alloc, sender, 0) {
-            Ok(_) => Said::Again,
-            Err(_) => Said::Wrong,
-        },
-    }
+    drop(owner);
+    said
 }
