@@ -46,7 +46,10 @@ fn worker_runs_all(rt: HostRuntime) {
     for turn in 0..10u32 {
         let team = team_of(&rt, rt.alloc(), PLAN);
         match run_team(&rt, rt.alloc(), PLAN, team) {
-            Ok(team) => expect_same(&rt, (turn, team.worker.counts().executed), (turn, 33)),
+            Ok(team) => {
+                expect_same(&rt, (turn, team.worker.counts().executed), (turn, 33));
+                drop(team);
+            }
             Err(error) => panic!(rt; "{error}"),
         }
     }

@@ -48,6 +48,7 @@ fn check_served<R: Abort + Threads + Wait + Sync>(rt: &R, alloc: Global) {
         (totals.queued, totals.chained, totals.executed),
         (201, 0, 201),
     );
+    drop(served);
 }
 
 /// A run ends with all messages handed over: 1,000 to 1,099 of the first sender, with its items 0 to 99, and 2,100 to 2,199 of the

@@ -68,6 +68,8 @@ where
     let all = [0, 1, 2].as_slice();
     expect_same(rt, (zero.has_run(all), one.has_run(all)), (true, true));
     expect_same(rt, alive(shares), 6);
+    drop(finished);
+    drop(caller);
 }
 
 /// A turn at the second queue that ran one item goes, with what it ran.

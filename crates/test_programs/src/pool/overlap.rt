@@ -106,6 +106,9 @@ fn run_all<R: Abort + Threads + Wait + Sync, K: Station + Drop + Send, G: Gate +
     guest.announce_all(rt, count);
     pool.run(rt, callers.as_mut_slice(), gate)
         .expect(rt, "memory");
+    drop(guest);
+    drop(pool);
+    drop(callers);
 }
 
 /// The same with an item in each of so many plain queues, and then in each of as many queues whose items bring values.

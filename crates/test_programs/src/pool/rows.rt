@@ -64,6 +64,7 @@ where
         panic!(rt; "not two queues")
     };
     expect_same(rt, (zero.has_run(first), one.has_run(second)), (true, true));
+    drop(finished);
 }
 
 /// Two queues are in one hand, in the order in which they were announced. They are out until they are put back.

@@ -156,8 +156,10 @@ pub(crate) fn two_filled<R: Abort>(
     first: u32,
     second: u32,
 ) -> Vec<Served<Logging>> {
-    let (one, _sender) = filled(rt, alloc, first);
-    let (other, _sender) = filled(rt, alloc, second);
+    let (one, sender) = filled(rt, alloc, first);
+    drop(sender);
+    let (other, sender) = filled(rt, alloc, second);
+    drop(sender);
     Vec::from_array(alloc, [one, other]).expect(rt, "memory")
 }
 

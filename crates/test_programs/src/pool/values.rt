@@ -115,6 +115,7 @@ pub(crate) fn empty_with_values<'a, R: Abort>(
         panic!(rt; "no memory for a queue")
     };
     let sender = senders.pop().expect(rt, "a sender");
+    drop(senders);
     (ServedOf::new(worker), sender)
 }
 

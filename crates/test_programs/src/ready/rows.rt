@@ -102,4 +102,7 @@ fn full_at_its_size(rt: HostRuntime) {
     picks(&rt, &ready, &mut first, Some(1));
     announces(&rt, &ready, &mut first, 2, Ok(()));
     announces(&rt, &ready, &mut first, 0, Err(AnnounceError::Full));
+    drop(ready);
+    drop(first);
+    drop(last);
 }

@@ -25,17 +25,19 @@ fn expect_none_pending<R: Abort>(rt: &R, sender: &mut Sender, items: u32) {
 /// A table that is dropped keeps its items.
 #[test]
 fn dropped_table_keeps_its_items(rt: HostRuntime) {
-    let (_owner, mut sender, mut delay) = delayed(&rt, rt.alloc(), 4, 0);
+    let (owner, mut sender, mut delay) = delayed(&rt, rt.alloc(), 4, 0);
     delay.meet(&mut sender);
     expect_same(&rt, arm(&mut delay, 0, 1), Some(Armed::OnTable));
     drop(delay);
     expect_same(&rt, queue_once(&mut sender, 0), Some(Answer::Pending));
+    drop(owner);
+    drop(sender);
 }
 
 /// A table that is dissolved gives its items back.
 #[test]
 fn dissolved_table_gives_its_items_back(rt: HostRuntime) {
-    let (_owner, mut sender, mut delay) = delayed(&rt, rt.alloc(), 4, 0);
+    let (owner, mut sender, mut delay) = delayed(&rt, rt.alloc(), 4, 0);
     for item in 0..4 {
         expect_same(&rt, arm(&mut delay, item, 1), Some(Armed::OnTable));
     }
@@ -43,4 +45,7 @@ fn dissolved_table_gives_its_items_back(rt: HostRuntime) {
     expect_none_pending(&rt, &mut sender, 4);
     expect_same(&rt, queue_once(&mut other, 3), Some(WAKES));
     expect_same(&rt, queue_once(&mut sender, 0), Some(QUEUED));
+    drop(owner);
+    drop(sender);
+    drop(other);
 }

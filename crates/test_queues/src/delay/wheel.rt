@@ -33,7 +33,10 @@ fn check_jumps<R: Abort>(rt: &R, delay: &mut Delay) {
 
 #[test]
 fn looks_at_one_slot_a_tick(rt: HostRuntime) {
-    let (_owner, _sender, mut delay) = delayed(&rt, rt.alloc(), 4, 0);
+    let (owner, sender, mut delay) = delayed(&rt, rt.alloc(), 4, 0);
     arm_all(&rt, &mut delay);
     check_jumps(&rt, &mut delay);
+    drop(delay);
+    drop(owner);
+    drop(sender);
 }

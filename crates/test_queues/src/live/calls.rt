@@ -115,4 +115,7 @@ fn owner_takes_what_was_queued_before_it_met(rt: HostRuntime) {
     first.meet_both(&mut second, &mut owner);
     expect_same(&rt, take(&mut owner), Some(1));
     expect_same(&rt, owner.next(), Some(2));
+    drop(owner);
+    drop(first);
+    drop(second);
 }

@@ -59,6 +59,8 @@ fn sender_stops_with_an_item(rt: HostRuntime) {
     expect_same(&rt, queue_once(&mut second, 2), Some(Answer::Pending));
     expect_same(&rt, close(&mut owner), Some(0));
     expect_same(&rt, owner.done(), Some(Done { ended: 0 }));
+    drop(owner);
+    drop(second);
 }
 
 /// Executes what comes until all that is to come was queued, and answers how many that were.

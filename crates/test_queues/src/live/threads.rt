@@ -159,4 +159,6 @@ fn flush_returns_beside_an_owner(rt: HostRuntime) {
     );
     assert!(rt; flushed);
     expect_same(&rt, executed, 17);
+    drop(owner);
+    drop(sender);
 }

@@ -133,9 +133,11 @@ fn expect_in_order<R: Abort>(rt: &R, ran: &[(u32, u64)]) {
 /// A worker that has served is destroyed with nothing left.
 fn check_served<R: Abort>(rt: &R, worker: ValueWorker<u64, Keeping<'_, R, u64>>) {
     expect_same(rt, worker.counts().executed, 129);
-    let (work, _book) = destroy(rt, worker, 0);
+    let (work, book) = destroy(rt, worker, 0);
     expect_in_order(rt, work.ran.as_slice());
     expect_same(rt, work.came_back.len(), 0);
+    drop(work);
+    drop(book);
 }
 
 fn serve_once<R: Abort + Threads + Wait + Sync>(rt: &R, alloc: Global, spins: Spins) {
