@@ -33,6 +33,8 @@ fn both_queues_run_all(rt: HostRuntime) {
         let (one, two) = run(&rt, rt.alloc(), layout).expect(&rt, "a run");
         assert!(rt; ran_all(&one));
         assert!(rt; ran_all(&two));
+        drop(two);
+        drop(one);
     }
 }
 

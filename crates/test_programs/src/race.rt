@@ -68,6 +68,7 @@ fn pool_runs_all(rt: HostRuntime) {
         Ok(Raced { pool, .. }) => {
             let finished = pool.finish(0).expect(&rt, "nothing is left");
             expect_same(&rt, finished.len(), 3);
+            drop(finished);
         }
         Err(error) => panic!(rt; "{error}"),
     }
@@ -83,10 +84,12 @@ fn queue_first<R: Abort + Wait>(rt: &R, sender: &mut Sender, parker: &Parker) {
 fn a_queueing_wakes(rt: HostRuntime) {
     let parker = Parker::new(rt.alloc()).expect(&rt, "memory");
     let before = Instant::now(&rt).expect(&rt, "a clock");
-    queue_first(&rt, &mut team_of(&rt, rt.alloc(), PLAN).program, &parker);
+    let mut team = team_of(&rt, rt.alloc(), PLAN);
+    queue_first(&rt, &mut team.program, &parker);
     parker.park_timeout(&rt, Duration::from_secs(20));
     let elapsed = before.elapsed(&rt).expect(&rt, "a clock");
     assert!(rt; elapsed < Duration::from_secs(20));
+    drop(team);
 }
 
 /// Whether item 0, which was queued, has begun, within so many looks.
@@ -129,6 +132,7 @@ fn run_withheld<'s, E, R: Abort + Threads + Wait + Sync>(
     }
     let has_begun = has_begun(rt, &mut program, looks);
     stop(rt, &mut program, &unparker);
+    drop(program);
     (has_begun, executed_by(rt, serving))
 }
 

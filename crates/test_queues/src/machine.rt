@@ -77,6 +77,7 @@ fn check_replay_on<R: Abort + AllocGlobal>(rt: &R, schedule: &Schedule, whole: &
     let mut core = Core::new(rt.alloc(), *schedule.layout()).expect(rt, "memory");
     expect_same(rt, replay_on(&mut core, schedule.turns()), Ok(()));
     expect_same(rt, core.history(), whole.history());
+    drop(core);
 }
 
 /// A replay as a whole gives what was accepted and begun.
@@ -90,6 +91,7 @@ fn check_replay<R: Abort + AllocGlobal>(rt: &R, text: &str, accepted: &[u32], be
     );
     expect_same(rt, replayed.begun().expect(rt, "memory").as_slice(), begun);
     check_replay_on(rt, &schedule, &replayed);
+    drop(replayed);
 }
 
 #[test]
@@ -144,6 +146,7 @@ fn steps_without<R: Abort + AllocGlobal>(
             return at;
         }
     }
+    drop(core);
     schedule.turns().len()
 }
 
@@ -236,6 +239,7 @@ fn refusals(rt: HostRuntime) {
     expect_same(&rt, core.history().len(), 0);
     expect_same(&rt, core.step(S1, Hold(5)), Ok(Held));
     expect_same(&rt, core.history(), [Event::Hold(1, 5)].as_slice());
+    drop(core);
 }
 
 /// Schedules, and whether a push of 0 behind them wakes, which no row says: it does where the queue rests, and not behind a take,
@@ -257,6 +261,7 @@ fn check_push<R: Abort + AllocGlobal>(rt: &R, text: &str, wakes: bool) {
     let reply = core.step(S0, Push(0));
     let pushed = Reply::Pushed { first: true, wakes };
     expect_same(rt, (text, reply), (text, Ok(pushed)));
+    drop(core);
 }
 
 #[test]
@@ -304,6 +309,7 @@ fn check_keepers<R: Abort + AllocGlobal>(rt: &R, text: &str, keepers: &[(u32, Op
         let kept = (text, number, core.keeper(number));
         expect_same(rt, kept, (text, number, keeper));
     }
+    drop(core);
 }
 
 #[test]
@@ -321,6 +327,7 @@ fn laws(rt: HostRuntime) {
     each_step_keeps_sound();
     chain_and_batch();
     first_push();
+    drop(core);
 }
 
 #[test]

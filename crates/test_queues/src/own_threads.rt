@@ -34,6 +34,7 @@ fn check_run<R: Abort + Threads + Wait + Sync>(rt: &R, alloc: Global) {
     );
     expect_same(rt, queued, (100, 100, 101));
     expect_same(rt, met.owner.done(), Some(Done { ended: 301 }));
+    drop(met);
 }
 
 /// A worker serves beside two senders: a run ends with their items and the stop item executed.
@@ -63,6 +64,7 @@ fn check_messages<R: Abort + Threads + Wait + Sync>(rt: &R, alloc: Global) {
     expect_same(rt, queued, (100, 100));
     expect_same(rt, met.ran.owner.done(), Some(Done { ended: 201 }));
     expect_same(rt, met.ran.sum, 37_496_700);
+    drop(met);
 }
 
 fn check_often<R: Abort + Threads + Wait + Sync>(
@@ -117,4 +119,5 @@ fn worker_ends(rt: HostRuntime) {
     };
     let totals = book.balance([ledger].as_slice()).expect(&rt, "a balance");
     expect_same(&rt, (totals.queued, totals.executed), (2, 2));
+    drop(book);
 }

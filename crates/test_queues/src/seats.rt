@@ -41,6 +41,7 @@ pub(crate) fn seats<R: Abort>(
     let (owner, mut senders) = build(alloc, layout).expect(rt, "memory for a queue");
     let second = senders.pop().expect(rt, "sender 1");
     let first = senders.pop().expect(rt, "sender 0");
+    drop(senders);
     (owner, first, second)
 }
 
@@ -52,6 +53,7 @@ pub(crate) fn two_seats<R: Abort>(rt: &R, alloc: Global, items: u32) -> (Owner, 
     let layout = Layout::new(items, 1, 1).expect(rt, "a layout");
     let (owner, mut senders) = build(alloc, layout).expect(rt, "memory for a queue");
     let sender = senders.pop().expect(rt, "a sender");
+    drop(senders);
     (owner, sender)
 }
 

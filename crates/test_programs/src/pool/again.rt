@@ -126,6 +126,9 @@ fn run_meanwhile<R: Abort + Threads + Wait + Sync>(
         },
         || queue_twice(rt, &mut guest, senders.as_mut_slice()),
     );
+    drop(senders);
+    drop(guest);
+    drop(workers);
 }
 
 /// Three workers are within an item each at one time, and are so again after all of them looked and found nothing announced.

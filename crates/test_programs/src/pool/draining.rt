@@ -20,7 +20,9 @@ fn new_worker<R: Abort>(rt: &R, alloc: Global) -> (Worker<Logging>, Sender) {
     let Ok((worker, mut senders)) = Worker::build(alloc, layout, Logging::asking(100), 1) else {
         panic!(rt; "no memory for a queue")
     };
-    (worker, senders.pop().expect(rt, "a sender"))
+    let sender = senders.pop().expect(rt, "a sender");
+    drop(senders);
+    (worker, sender)
 }
 
 /// What a pool may have of a worker: it drains no more, and has nothing left. It executes nothing.
@@ -68,4 +70,7 @@ fn drained_queue_is_served(rt: HostRuntime) {
         panic!(rt; "not one queue")
     };
     expect_same(&rt, ran.order.as_slice(), [103, 1, 3, 2, 0, 1].as_slice());
+    drop(finished);
+    drop(caller);
+    drop(sender);
 }

@@ -108,6 +108,7 @@ where
     let pool = finish_out(rt, pool, 3, 1);
     expect_same(rt, alive(shares), 3);
     drop(pool);
+    drop(caller);
 }
 
 /// A pool of two queues of three items each, and the sender of the second: what goes takes its values with it.
@@ -135,6 +136,7 @@ where
             drop(pool);
             expect_same(rt, alive(shares), 3);
             drop(sender);
+            drop(caller);
         }
         Going::Turn => leave_turn(rt, pool, caller, sender, shares),
     }
@@ -147,7 +149,8 @@ fn two_queues<'a, R: Abort>(
     alloc: Global,
     shares: &Shares,
 ) -> (Vec<Valued<'a, R>>, ValueSender<Share>) {
-    let (one, _sender) = three_shares(rt, alloc, shares);
+    let (one, sender) = three_shares(rt, alloc, shares);
+    drop(sender);
     let (other, sender) = three_shares(rt, alloc, shares);
     let queues = Vec::from_array(alloc, [one, other]).expect(rt, "memory");
     (queues, sender)

@@ -112,6 +112,8 @@ fn serve_board<R: Abort + Threads + Wait + Sync>(
         guest.get_mut().announce_all(rt, QUEUES);
     }
     serve_in_threads(rt, guests.as_mut_slice(), board);
+    drop(guests);
+    drop(callers);
 }
 
 /// Queues go from thread to thread, and also a thread that picked a queue which another has in hand gets it. What was queued is
@@ -124,4 +126,5 @@ fn handed_on_between_threads(rt: HostRuntime) {
     finish_all(&rt, pool, 0, 3);
     assert!(rt; board.has_run_all());
     expect_same(&rt, board.gate.count(), board.queued.load(SeqCst));
+    drop(board);
 }

@@ -44,6 +44,8 @@ fn announced_queues_wait(rt: HostRuntime) {
         .expect(&rt, "a queue");
     expect_waiting(&rt, senders.as_mut_slice(), 3);
     check_ended(&rt, pool, 4, &[0, 1, 2, 3], &[0, 1, 2, 3]);
+    drop(senders);
+    drop(caller);
 }
 
 /// A pick executes and closes nothing. Neither does what puts the queue back, though an item was queued after its work.
@@ -58,4 +60,6 @@ fn picked_and_put_back_queue_waits(rt: HostRuntime) {
     pool.put_back(&mut caller, worked);
     expect_waiting(&rt, senders.as_mut_slice(), 2);
     check_ended(&rt, pool, 3, &[0, 1, 0, 2], &[0, 1, 2]);
+    drop(senders);
+    drop(caller);
 }

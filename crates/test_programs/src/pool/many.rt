@@ -139,6 +139,8 @@ fn run_meanwhile<R: Abort + Threads + Wait + Sync>(
         },
         || queue_all(rt, guests.as_mut_slice(), senders),
     );
+    drop(guests);
+    drop(workers);
 }
 
 /// Whether the items of a thread were run in their order, each once.
@@ -172,6 +174,7 @@ fn check_orders<R: Abort>(rt: &R, pool: Pool<Logging>) {
     for (work, _) in finished.as_slice() {
         check_order(rt, work.order.as_slice());
     }
+    drop(finished);
 }
 
 /// Each of many queues is run to its end by few workers, with all that was queued on it in each sender's order, and nothing is left
@@ -185,5 +188,6 @@ fn many_queues_run_to_their_ends(rt: HostRuntime) {
         let guests = take_guests(&rt, rt.alloc(), &pool, &mut callers, THREADS);
         run_meanwhile(&rt, &pool, callers, guests, senders.as_slice());
         check_orders(&rt, pool);
+        drop(senders);
     }
 }

@@ -153,6 +153,7 @@ fn run_late<R: Abort + Threads + Wait + Sync>(
         assert!(rt; has_come(&gate.waits));
         late.run(rt, gate)
     });
+    drop(late);
 }
 
 /// Two runs at once: the worker of the second executes queue 1 while that of the first waits before the item of queue 0, and
@@ -163,7 +164,9 @@ fn pool_late_run_overlaps(rt: HostRuntime) {
     let (pool, announcer, mut callers) = new_pool_for(&rt, rt.alloc(), queues, 2);
     let late = take_last(&rt, &pool, &mut callers);
     let first = take_last(&rt, &pool, &mut callers);
-    Guest::new(&pool, announcer).announce_all(&rt, 2);
+    let mut guest = Guest::new(&pool, announcer);
+    guest.announce_all(&rt, 2);
+    drop(guest);
     let gate = Waiting::new();
     run_late(
         &rt,
@@ -173,4 +176,5 @@ fn pool_late_run_overlaps(rt: HostRuntime) {
     );
     expect_same(&rt, gate.came.load(SeqCst), 1);
     finish_all(&rt, pool, 0, 2);
+    drop(callers);
 }

@@ -66,10 +66,13 @@ struct Disturbed {
 fn new_disturbed<R: Abort>(rt: &R, alloc: Global) -> Disturbed {
     let layout = Layout::new(300, 1, 3).expect(rt, "a layout");
     let (served, mut senders) = new_queue(rt, alloc, layout, Logging::asking(100));
+    let first = senders.pop().expect(rt, "a sender");
+    let second = senders.pop().expect(rt, "a second sender");
+    drop(senders);
     Disturbed {
         queues: Vec::from_array(alloc, [served]).expect(rt, "memory"),
-        first: senders.pop().expect(rt, "a sender"),
-        second: senders.pop().expect(rt, "a second sender"),
+        first,
+        second,
     }
 }
 
@@ -179,13 +182,13 @@ fn owes_once<R: Abort + Threads + Wait + Sync>(
 /// Whether a turn owed an execution, while two senders disturbed again and again, for as long as the test has patience.
 fn owes_at_last<R: Abort + Clock + Threads + Wait + Sync>(
     rt: &R,
-    mut guest: Guest<'_>,
+    guest: &mut Guest<'_>,
     first: &mut Sender,
     second: &mut Sender,
 ) -> bool {
     let patience = Patience::begin(rt);
     for _ in 0..u32::MAX {
-        if owes_once(rt, &mut guest, first, second) {
+        if owes_once(rt, guest, first, second) {
             return true;
         }
         if patience.is_over(rt) {
@@ -205,7 +208,10 @@ fn owing_is_given_back(rt: HostRuntime) {
         mut second,
     } = new_disturbed(&rt, rt.alloc());
     let (pool, caller) = new_pool(&rt, rt.alloc(), queues);
-    let guest = Guest::new(&pool, caller);
-    assert!(rt; owes_at_last(&rt, guest, &mut first, &mut second));
+    let mut guest = Guest::new(&pool, caller);
+    assert!(rt; owes_at_last(&rt, &mut guest, &mut first, &mut second));
+    drop(guest);
     finish_all(&rt, pool, 1000, 1);
+    drop(second);
+    drop(first);
 }

@@ -85,6 +85,7 @@ fn run_restless<R: Abort + Threads + Wait + Sync>(
         &doorway,
         || take_places(rt, &mut guest, sender, &doorway),
     );
+    drop(guest);
     expect_same(rt, doorway.late.load(SeqCst), 0);
 }
 
@@ -101,7 +102,9 @@ fn restless_queue_gives_way_where_no_place_is_free(rt: HostRuntime) {
     let (pool, caller, worker) = new_pool_with_worker(&rt, rt.alloc(), queues);
     let worker = Guest::new(&pool, worker);
     run_restless(&rt, worker, Guest::new(&pool, caller), &mut two);
-    finish_unfinished(&rt, pool, 0, (0, 1));
+    drop(finish_unfinished(&rt, pool, 0, (0, 1)));
+    drop(two);
+    drop(one);
 }
 
 /// Whether an item of the second queue has ended.
@@ -141,6 +144,7 @@ fn run_crowded<R: Abort + Threads + Wait + Sync>(rt: &R, worker: Guest<'_>, mut 
         ended: AtomicU64::new(0),
     };
     run_beside(rt, worker, &second, || announce_on(rt, &mut guest, &second));
+    drop(guest);
 }
 
 /// The same where others announce all the time, and take the room that was made for it: it gives way while they do.
@@ -158,7 +162,9 @@ fn restless_queue_gives_way_to_others_places(rt: HostRuntime) {
         two.request_stop(1);
         let (pool, caller, worker) = new_pool_with_worker(&rt, rt.alloc(), queues);
         run_crowded(&rt, Guest::new(&pool, worker), Guest::new(&pool, caller));
-        finish_unfinished(&rt, pool, 0, (0, 1));
+        drop(finish_unfinished(&rt, pool, 0, (0, 1)));
+        drop(two);
+        drop(one);
     }
 }
 
@@ -182,6 +188,7 @@ fn new_three<R: Abort>(rt: &R, alloc: Global) -> Three {
     for item in 0..3000u32 {
         queue_item(rt, &mut three, item);
     }
+    drop(three);
     queues.push(last).expect(rt, "memory");
     Three { queues, one, two }
 }
@@ -232,7 +239,9 @@ fn run_last<R: Abort + Threads + Wait + Sync>(
         || take_all_places(rt, &mut guest, one, two, &doorway),
     );
     expect_same(rt, doorway.late.load(SeqCst), 0);
-    serve_announced(rt, &mut guest)
+    let served = serve_announced(rt, &mut guest);
+    drop(guest);
+    served
 }
 
 /// A run that ends while no place is free leaves each queue announced, once, of which something is left.
@@ -250,6 +259,8 @@ fn run_announces_what_it_leaves_where_no_place_is_free(rt: HostRuntime) {
     let served = run_last(&rt, worker, Guest::new(&pool, caller), &mut one, &mut two);
     expect_same(&rt, served, 3);
     finish_all(&rt, pool, 0, 3);
+    drop(two);
+    drop(one);
 }
 
 /// Whether one who wakes a queue has come to that, and is through with it.
@@ -309,6 +320,8 @@ fn wake_beside<R: Abort + Threads + Wait + Sync>(
         || queue_and_wake(rt, &mut other, sender, &waking),
         || serve_before_and_after(rt, &mut guest, &waking),
     );
+    drop(other);
+    drop(guest);
 }
 
 /// A wake waits while all places are taken, and takes the first that gets free.
@@ -320,4 +333,5 @@ fn wake_waits_for_a_place(rt: HostRuntime) {
     let guest = Guest::new(&pool, caller);
     wake_beside(&rt, guest, Guest::new(&pool, other), &mut sender);
     finish_all(&rt, pool, 0, 1);
+    drop(sender);
 }

@@ -84,6 +84,7 @@ where
     end_turn(rt, &pool, &mut caller, one);
     end_turn(rt, &pool, &mut caller, other);
     check_ended(rt, pool, 9, &[0, 1], &[0]);
+    drop(caller);
 }
 
 /// A queue that is out is named before one with something left, which was executed up to the limit.
@@ -98,6 +99,7 @@ where
     let pool = finish_out(rt, pool, 1, 1);
     end_turn(rt, &pool, &mut caller, turn);
     finish_all(rt, pool, 1, 2);
+    drop(caller);
 }
 
 /// A worked row of a pool of two queues.
@@ -128,16 +130,22 @@ where
 {
     let (pool, mut caller) = new_pool(rt, alloc, queues);
     match row {
-        Row::Full => fill(rt, &pool, &mut caller),
+        Row::Full => {
+            fill(rt, &pool, &mut caller);
+            drop(pool);
+            drop(caller);
+        }
         Row::InHand => take_both(rt, pool, caller),
         Row::ToTheLimit => {
             let pool = finish_unfinished(rt, pool, 1, (0, 1));
             check_ended(rt, pool, 1, &[0, 1], &[]);
+            drop(caller);
         }
         Row::FirstLeft => {
             let pool = finish_unfinished(rt, pool, 1, (0, 1));
             let pool = finish_unfinished(rt, pool, 1, (1, 1));
             finish_all(rt, pool, 1, 2);
+            drop(caller);
         }
         Row::Out => take_second(rt, pool, caller),
     }

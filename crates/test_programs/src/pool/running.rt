@@ -22,6 +22,7 @@ fn run_past<R: Abort + Threads + Wait + Sync, G: Gate + Sync>(
 ) {
     guest.announce_all(rt, queues);
     guest.run(rt, gate);
+    drop(guest);
 }
 
 /// One worker runs a pool of so many queues.
@@ -43,6 +44,7 @@ fn stop_item_counts_once(rt: HostRuntime) {
     }
     run_alone(&rt, guest, 2);
     finish_all(&rt, pool, 0, 2);
+    drop(sender);
 }
 
 /// A stop item that ran while the pool was to be taken apart counts: a run ends, whatever is left.
@@ -56,6 +58,7 @@ fn stop_item_counts_where_the_end_ran_it(rt: HostRuntime) {
     let pool = finish_unfinished(&rt, pool, 1, (0, 1));
     run_alone(&rt, Guest::new(&pool, caller), 1);
     finish_all(&rt, pool, 1, 1);
+    drop(sender);
 }
 
 /// A run goes on at a turn that was given back, until nothing is left of it, and each item passes the gate.
@@ -105,6 +108,7 @@ fn run_to_stop<R: Abort + Threads + Wait + Sync>(
         &NoGate,
         || serve_and_stop(rt, &mut guest, sender),
     );
+    drop(guest);
 }
 
 /// Runs a pool whose one queue has run its stop item before.
@@ -116,6 +120,7 @@ fn run_after_stop<R: Abort + Threads + Wait + Sync>(rt: &R, alloc: Global, is_co
     let worker = Guest::new(&pool, worker);
     run_to_stop(rt, worker, Guest::new(&pool, caller), &mut sender);
     finish_all(rt, pool, 0, 1);
+    drop(sender);
 }
 
 /// A stop item that ran before the pool was made counts for nothing, whether it was counted then or not: a run waits for another one.
@@ -130,6 +135,7 @@ fn restless_first<R: Abort>(rt: &R, alloc: Global, others: u32) -> Vec<Served<Lo
     let (served, mut sender) = empty(rt, alloc, 1, Logging::asking(0));
     queue_item(rt, &mut sender, 0);
     sender.request_stop(1);
+    drop(sender);
     let mut queues = to_stop(rt, alloc, others, 1);
     queues.insert(0, served).expect(rt, "memory");
     queues
@@ -142,7 +148,7 @@ fn restless_queue_ends(rt: HostRuntime) {
         let queues = restless_first(&rt, rt.alloc(), others);
         let (pool, caller) = new_pool(&rt, rt.alloc(), queues);
         run_alone(&rt, Guest::new(&pool, caller), others.saturating_add(1));
-        finish_unfinished(&rt, pool, 0, (0, 1));
+        drop(finish_unfinished(&rt, pool, 0, (0, 1)));
     }
 }
 
@@ -156,7 +162,8 @@ fn second_run_leaves_what_is_announced(rt: HostRuntime) {
     run_alone(&rt, Guest::new(&pool, caller), 1);
     queue_item(&rt, &mut sender, 0);
     run_alone(&rt, Guest::new(&pool, other), 1);
-    finish_unfinished(&rt, pool, 0, (0, 1));
+    drop(finish_unfinished(&rt, pool, 0, (0, 1)));
+    drop(sender);
 }
 
 /// With no worker nothing is run, and the call returns.
@@ -167,5 +174,6 @@ fn no_worker_runs_nothing(rt: HostRuntime) {
     expect_same(&rt, callers.len(), 0);
     pool.run(&rt, callers.as_mut_slice(), &NoGate)
         .expect(&rt, "threads");
-    finish_unfinished(&rt, pool, 0, (0, 2));
+    drop(finish_unfinished(&rt, pool, 0, (0, 2)));
+    drop(callers);
 }

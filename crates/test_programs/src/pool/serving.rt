@@ -91,6 +91,7 @@ fn run_while_queued<R: Abort + Threads + Wait + Sync>(
         &NoGate,
         || queue_rounds(rt, &mut guest, one, two),
     );
+    drop(guest);
 }
 
 /// The pool after such a run.
@@ -107,6 +108,8 @@ fn run_rounds<R: Abort + Threads + Wait + Sync>(
     let (pool, caller, worker) = new_pool_with_worker(rt, alloc, queues);
     let worker = Guest::new(&pool, worker);
     run_while_queued(rt, worker, Guest::new(&pool, caller), &mut one, &mut two);
+    drop(two);
+    drop(one);
     pool
 }
 

@@ -15,7 +15,8 @@ use wq_pool::{Caller, NoGate, Pool, Served, Turn};
 /// Three queues, with three items queued in each.
 fn three_filled<R: Abort>(rt: &R, alloc: Global) -> Vec<Served<Logging>> {
     let mut queues = two_filled(rt, alloc, 3, 3);
-    let (last, _sender) = filled(rt, alloc, 3);
+    let (last, sender) = filled(rt, alloc, 3);
+    drop(sender);
     queues.push(last).expect(rt, "memory");
     queues
 }
@@ -27,6 +28,7 @@ fn work_one<R: Abort + Wait>(rt: &R, pool: &Pool<Logging>, mut caller: Caller) -
     let is_announced = pool.announce(rt, &mut caller, 1).is_ok();
     assert!(rt; is_announced);
     let turn = pool.pick(rt, &mut caller).expect(rt, "a turn");
+    drop(caller);
     work_back(rt, turn, 1, &NoGate)
 }
 
@@ -46,6 +48,9 @@ fn serve_others<R: Abort + Threads + Wait + Sync>(
         || first.serve(rt, 0, &gate),
         || second.serve(rt, 2, &gate),
     );
+    drop(second);
+    drop(first);
+    drop(callers);
     gate.count()
 }
 
@@ -61,5 +66,5 @@ fn others_end_while_a_turn_stops(rt: HostRuntime) {
     let pool = finish_out(&rt, pool, 0, 1);
     expect_same(&rt, turn.queue(), 1);
     drop(turn);
-    finish_out(&rt, pool, 0, 1);
+    drop(finish_out(&rt, pool, 0, 1));
 }

@@ -137,6 +137,7 @@ pub(crate) fn empty<R: Abort>(
     let layout = Layout::new(items.max(4), 1, 2).expect(rt, "a layout");
     let (served, mut senders) = new_queue(rt, alloc, layout, work);
     let sender = senders.pop().expect(rt, "a sender");
+    drop(senders);
     (served, sender)
 }
 
@@ -172,7 +173,8 @@ pub(crate) fn all_filled<R: Abort>(
 ) -> Vec<Served<Logging>> {
     let mut all = Vec::new(alloc);
     for _turn in 0..queues {
-        let (served, _sender) = filled(rt, alloc, count);
+        let (served, sender) = filled(rt, alloc, count);
+        drop(sender);
         all.push(served).expect(rt, "memory");
     }
     all
@@ -189,6 +191,7 @@ pub(crate) fn to_stop<R: Abort>(
     for _turn in 0..queues {
         let (served, mut sender) = filled(rt, alloc, count);
         sender.request_stop(1);
+        drop(sender);
         all.push(served).expect(rt, "memory");
     }
     all
@@ -232,7 +235,8 @@ pub(crate) fn new_pool<R: Abort, K: Station + Drop>(
 ) -> (PoolOf<K>, Caller)
     ensures { IsCallerOf result.0.ready result.1 }
 {
-    let (pool, caller, _workers) = new_pool_for(rt, alloc, queues, 0);
+    let (pool, caller, workers) = new_pool_for(rt, alloc, queues, 0);
+    drop(workers);
     (pool, caller)
 }
 
@@ -247,6 +251,7 @@ pub(crate) fn new_pool_with_worker<R: Abort, K: Station + Drop>(
 {
     let (pool, caller, mut workers) = new_pool_for(rt, alloc, queues, 1);
     let worker = take_last(rt, &pool, &mut workers);
+    drop(workers);
     (pool, caller, worker)
 }
 
@@ -323,6 +328,7 @@ pub(crate) fn run_beside<R: Abort + Threads + Wait + Sync, G: Gate + Sync, F: Fn
     requires { F.IsAlwaysCallable deed }
 {
     join(rt, || worker.run(rt, gate), deed);
+    drop(worker);
 }
 
 /// So many callers with their pool, each under a lock of its own.
@@ -449,4 +455,5 @@ where
 {
     let finished = pool.finish(limit).expect(rt, "all finished");
     expect_same(rt, finished.len(), queues);
+    drop(finished);
 }

@@ -86,6 +86,8 @@ fn noted_queue<'a, R: Abort>(rt: &R, alloc: Global, notes: &'a Noting) -> Vec<Se
     let (served, mut senders) = new_queue(rt, alloc, layout, Noted::new(notes));
     let mut sender = senders.pop().expect(rt, "a sender");
     queue_four(rt, &mut sender);
+    drop(sender);
+    drop(senders);
     Vec::from_array(alloc, [served]).expect(rt, "memory")
 }
 
@@ -113,6 +115,8 @@ fn given_back_at_its_limit(rt: HostRuntime) {
     pool.announce(&rt, &mut caller, 0).expect(&rt, "room");
     let turn = pool.pick(&rt, &mut caller).expect(&rt, "a turn");
     pool.put_back(&mut caller, work_thrice(&rt, turn, &gate));
+    drop(caller);
+    drop(pool);
 }
 
 /// Drops the turn at the queue that was announced first, and serves the one behind it.
@@ -137,4 +141,6 @@ fn dropped_stays_out(rt: HostRuntime) {
     drop_first(&rt, &pool, &mut caller);
     let pool = finish_out(&rt, pool, 9, 1);
     assert!(rt; pool.pick(&rt, &mut caller).is_none());
+    drop(pool);
+    drop(caller);
 }

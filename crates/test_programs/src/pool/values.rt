@@ -139,8 +139,10 @@ pub(crate) fn two_with_values<'a, R: Abort>(
     first: u32,
     second: u32,
 ) -> Vec<Valued<'a, R>> {
-    let (one, _sender) = filled_with_values(rt, alloc, first);
-    let (other, _sender) = filled_with_values(rt, alloc, second);
+    let (one, sender) = filled_with_values(rt, alloc, first);
+    drop(sender);
+    let (other, sender) = filled_with_values(rt, alloc, second);
+    drop(sender);
     Vec::from_array(alloc, [one, other]).expect(rt, "memory")
 }
 
@@ -153,7 +155,8 @@ pub(crate) fn all_with_values<'a, R: Abort>(
 ) -> Vec<Valued<'a, R>> {
     let mut all = Vec::new(alloc);
     for _turn in 0..queues {
-        let (served, _sender) = filled_with_values(rt, alloc, count);
+        let (served, sender) = filled_with_values(rt, alloc, count);
+        drop(sender);
         all.push(served).expect(rt, "memory");
     }
     all
@@ -170,6 +173,7 @@ pub(crate) fn to_stop_with_values<'a, R: Abort>(
     for _turn in 0..queues {
         let (served, mut sender) = filled_with_values(rt, alloc, count);
         sender.request_stop(1);
+        drop(sender);
         all.push(served).expect(rt, "memory");
     }
     all

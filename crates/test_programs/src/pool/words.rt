@@ -27,7 +27,8 @@ fn words_of_pool_errors(rt: HostRuntime) {
 
 /// A pool of one queue, of which nothing is queued.
 fn lone<R: Abort>(rt: &R, alloc: Global) -> Pool<Logging> {
-    let (pool, _caller) = new_pool(rt, alloc, all_filled(rt, alloc, 1, 0));
+    let (pool, caller) = new_pool(rt, alloc, all_filled(rt, alloc, 1, 0));
+    drop(caller);
     pool
 }
 

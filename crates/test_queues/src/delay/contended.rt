@@ -57,4 +57,7 @@ fn each_call_of_a_table_is_contended(rt: HostRuntime) {
     );
     assert!(rt; ended);
     expect_same(&rt, contended, [true; 3]);
+    drop(delay);
+    drop(sender);
+    drop(owner);
 }

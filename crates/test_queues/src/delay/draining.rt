@@ -108,6 +108,9 @@ fn play<R: Abort>(rt: &R, alloc: Global, steps: &[Step]) {
             _ => step_table(rt, &mut delay, place, step),
         }
     }
+    drop(delay);
+    drop(sender);
+    drop(owner);
 }
 
 /// An advance within a drain posts nothing and drops nothing, however often it is made. After the resume what is left goes out
@@ -275,7 +278,7 @@ fn arm_each<R: Abort>(rt: &R, delay: &mut Delay) {
 
 /// Lets all items go beside drains: how many advances left something that was due.
 fn all_goes_out<R: Abort + Threads + Sync>(rt: &R, alloc: Global) -> u32 {
-    let (mut owner, _sender, mut delay) = delayed(rt, alloc, ITEMS, 0);
+    let (mut owner, sender, mut delay) = delayed(rt, alloc, ITEMS, 0);
     arm_each(rt, &mut delay);
     let (left, executed) = join(
         rt,
@@ -283,6 +286,9 @@ fn all_goes_out<R: Abort + Threads + Sync>(rt: &R, alloc: Global) -> u32 {
         || drain_through(&mut owner),
     );
     assert!(rt; executed);
+    drop(delay);
+    drop(sender);
+    drop(owner);
     left.expect(rt, "an end")
 }
 

@@ -9,8 +9,10 @@ fn words_of_errors(rt: HostRuntime) {
     let alloc = rt.alloc();
     let words = "the tick is before the present one";
     expect_words(&rt, alloc, &Backwards, words);
-    let (_owner, sender) = two_seats(&rt, alloc, 1);
+    let (owner, sender) = two_seats(&rt, alloc, 1);
     let no_room = NoRoom { sender };
     expect_words(&rt, alloc, &no_room, "memory");
     expect_report(&rt, alloc, &no_room, "NoRoom { .. }");
+    drop(no_room);
+    drop(owner);
 }

@@ -75,4 +75,7 @@ fn each_call_of_a_sender_is_contended(rt: HostRuntime) {
     );
     assert!(rt; ended);
     expect_same(&rt, contended, [true; 4]);
+    drop(second);
+    drop(first);
+    drop(owner);
 }

@@ -73,7 +73,7 @@ fn post_one_of_two(sender: &mut Sender, one: u32, two: u32) -> Option<Posted>
 /// Two items are held at once: the one is pushed, and the other given back. Where either is pending, neither is held afterwards.
 #[test]
 fn one_of_two_is_posted(rt: HostRuntime) {
-    let (_owner, mut first, mut second) = seats(&rt, rt.alloc(), 4, 2);
+    let (owner, mut first, mut second) = seats(&rt, rt.alloc(), 4, 2);
     assert!(rt; 2 < first.layout().items && 2 < second.layout().items);
     expect_same(&rt, second.queue_tries(0, 1), WAKES);
     expect_same(&rt, post_one_of_two(&mut first, 0, 1), None);
@@ -85,4 +85,7 @@ fn one_of_two_is_posted(rt: HostRuntime) {
     expect_same(&rt, post_one_of_two(&mut first, 1, 2), Some(posted));
     expect_same(&rt, second.is_pending(1), true);
     expect_same(&rt, second.is_pending(2), false);
+    drop(second);
+    drop(first);
+    drop(owner);
 }

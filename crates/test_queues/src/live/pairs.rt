@@ -42,6 +42,8 @@ fn run_twice<R: Abort>(rt: &R, owner: Owner, sender: Sender)
     pair.end();
     let (owner, sender) = pair.split();
     expect_same(rt, (owner.counts().ended, sender.counts().queued), (2, 2));
+    drop(sender);
+    drop(owner);
 }
 
 /// The sender in an owner's seat queues anew what the owner runs.

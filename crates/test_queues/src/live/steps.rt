@@ -219,4 +219,6 @@ pub(crate) fn play<R: Abort + Wait>(
 pub(crate) fn play_new<R: Abort + Wait>(rt: &R, alloc: Global, steps: &[Step]) {
     let (mut owner, mut senders) = new_seats(rt, alloc, 2);
     play(rt, &mut owner, &mut senders, steps);
+    drop(senders);
+    drop(owner);
 }

@@ -48,6 +48,7 @@ fn owner_stops_with_a_batch(rt: HostRuntime) {
     play(&rt, &mut owner, &mut senders, TAKEN);
     drop(owner);
     ask_all(&rt, &mut senders, LEFT);
+    drop(senders);
 }
 
 /// What a sender held stays pending when it stops, and the queue is closed and run to its end.
@@ -290,4 +291,7 @@ fn senders_end_while_the_owner_stops(rt: HostRuntime) {
     expect_same(&rt, said, (answers, Some(66)));
     expect_same(&rt, close(&mut owner), Some(0));
     expect_same(&rt, owner.done(), Some(Done { ended: 67 }));
+    drop(second);
+    drop(first);
+    drop(owner);
 }

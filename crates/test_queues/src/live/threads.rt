@@ -56,6 +56,9 @@ fn two_threads_queue_in_their_order(rt: HostRuntime) {
     let mut executed = Vec::new(rt.alloc());
     assert!(rt; execute_for(&mut owner, 129, &mut executed));
     expect_halves(&rt, &owner, executed.as_slice(), 64);
+    drop(second);
+    drop(first);
+    drop(owner);
 }
 
 /// Queues each of three items that is no longer pending. Answers how many were queued.
@@ -118,6 +121,8 @@ fn items_are_queued_again_while_a_batch_waits(rt: HostRuntime) {
     assert!(rt; execute_for(&mut owner, 4, &mut executed));
     expect_same(&rt, executed.len(), queued as usize);
     assert!(rt; owner.done().is_some());
+    drop(sender);
+    drop(owner);
 }
 
 /// Flushes by barrier 0. True where the barrier was queued and has been executed.

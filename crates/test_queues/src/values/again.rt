@@ -88,4 +88,8 @@ fn item_that_begins_is_handed_its_own_value(rt: HostRuntime) {
     let (even, odd) = queued;
     expect_same(&rt, (even.1, odd.1), (true, true));
     expect_same(&rt, executed, Some(even.0.wrapping_add(odd.0)));
+    drop(first);
+    drop(second);
+    drop(senders);
+    drop(owner);
 }

@@ -49,4 +49,6 @@ fn ledgers_of_values_balance(rt: HostRuntime) {
     expect_same(&rt, missing, Err(Unbalanced::Missing(0)));
     expect_same(&rt, twice, Err(Unbalanced::Twice(1)));
     expect_same(&rt, once, Ok(totals));
+    drop(book);
+    drop(work);
 }

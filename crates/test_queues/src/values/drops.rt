@@ -111,4 +111,5 @@ fn sender_stops_and_its_values_are_executed(rt: HostRuntime) {
             (true, left),
         );
     }
+    drop(owner);
 }

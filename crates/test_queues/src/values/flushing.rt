@@ -69,6 +69,8 @@ fn flush_waits_for_the_values_before_it(rt: HostRuntime) {
         || execute_late(&rt, &mut owner, ITEMS),
     );
     expect_same(&rt, (left, executed), (0, ITEMS.wrapping_add(1)));
+    drop(sender);
+    drop(owner);
 }
 
 /// Each way of queueing but `queue_value` gives this answer, and none waits.
@@ -104,4 +106,6 @@ fn refused_flush_does_not_wait(rt: HostRuntime) {
         (counts.pending, counts.draining, counts.closed),
         (4, 4, 4),
     );
+    drop(sender);
+    drop(owner);
 }

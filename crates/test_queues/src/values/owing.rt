@@ -194,6 +194,7 @@ fn new_disturbed<'a, R: Abort>(rt: &'a R, alloc: Global, shared: &Arc<u32>) -> D
     let mut first = take_last(rt, &worker, &mut senders);
     queue_first(&mut first, 0);
     queue_first(&mut first, 50);
+    drop(senders);
     Disturbed {
         worker,
         first,
@@ -297,6 +298,9 @@ fn contended_pair_goes_on(rt: HostRuntime) {
         totals.executed,
     );
     assert!(rt; totals.contended > 0);
+    drop(book);
+    drop(second);
+    drop(first);
 }
 
 /// A worker that owes an execution is ready for no number, though one waits, and is ready for one once that execution has ended.
@@ -305,14 +309,17 @@ fn owing_worker_is_not_ready(rt: HostRuntime) {
     let shared = Arc::new(rt.alloc(), 7u32).expect(&rt, "a value");
     let Disturbed {
         mut worker,
-        first: _first,
+        first,
         mut second,
     } = new_owing(&rt, rt.alloc(), &shared, 1);
+    drop(first);
     queue_first(&mut second, 50);
     expect_same(&rt, worker.ready(), None);
     let ended = worker.run_one();
     assert!(rt; matches!(ended, Ran::Item(_)));
     assert!(rt; worker.ready().is_some());
+    drop(second);
+    drop(worker);
 }
 
 /// A worker that goes with an execution owed drops the pairs that it has not queued, and each once.

@@ -20,6 +20,7 @@ pub(crate) fn seats<R: Abort, V: Drop>(
     let layout = Layout::new(items, 1, 1).expect(rt, "a layout");
     let (owner, mut senders) = build_values(alloc, layout).expect(rt, "memory for a queue");
     let sender = senders.pop().expect(rt, "a sender");
+    drop(senders);
     (owner, sender)
 }
 

@@ -49,4 +49,6 @@ fn ready_and_rest_with_values(rt: HostRuntime) {
     assert!(rt; !rest(&rt, &mut worker));
     expect_same(&rt, run_out(&rt, &mut worker), 2);
     assert!(rt; rest(&rt, &mut worker));
+    drop(first);
+    drop(worker);
 }

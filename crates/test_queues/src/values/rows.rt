@@ -87,6 +87,8 @@ fn play<R: Abort>(rt: &R, alloc: Global, items: u32, steps: &[Step]) {
             step_owner(rt, alloc, &mut owner, step);
         }
     }
+    drop(sender);
+    drop(owner);
 }
 
 const AGAIN: &[Step] = &[
@@ -188,4 +190,6 @@ fn barriers_bring_nothing(rt: HostRuntime) {
     if sender.layout().barriers > 0 {
         assert!(rt; sender.flush_done(0));
     }
+    drop(sender);
+    drop(owner);
 }

@@ -149,6 +149,8 @@ fn serve_once<R: Abort + Threads + Wait + Sync>(rt: &R, alloc: Global, spins: Sp
     worker.set_spins(spins);
     serve_beside(rt, alloc, &mut worker, &mut first, &mut second);
     check_served(rt, worker);
+    drop(second);
+    drop(first);
 }
 
 /// A worker that serves runs all that two senders queue in threads, each item with its value, is woken where it has parked, and ends

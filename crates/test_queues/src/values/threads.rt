@@ -209,6 +209,8 @@ fn two_threads_queue_values_in_their_order(rt: HostRuntime) {
     expect_same(&rt, alive(&shared), 512);
     drop(executed);
     expect_same(&rt, alive(&shared), 0);
+    drop(seats);
+    drop(owner);
 }
 
 /// Executes so many numbers, each as it comes, and drops what it was handed.
@@ -246,6 +248,7 @@ fn senders_go_and_each_value_is_dropped_once(rt: HostRuntime) {
     expect_same(&rt, alive(&shared), 212);
     drop(owner);
     expect_same(&rt, alive(&shared), 0);
+    drop(seats);
 }
 
 /// Queues all items but the first in one try each, one after another and over and over, until one was contended and the very value

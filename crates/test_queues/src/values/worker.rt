@@ -110,6 +110,7 @@ pub(super) fn new_team<'a, R: Abort, V: Drop>(
     let (worker, mut senders) = new_worker(rt, alloc, items, Keeping::asking(rt, alloc, asks));
     let second = take_last(rt, &worker, &mut senders);
     let first = take_last(rt, &worker, &mut senders);
+    drop(senders);
     Team {
         worker,
         first,
@@ -228,9 +229,13 @@ pub(super) fn play_out<R: Abort>(
     came_back: &[(u32, u64)],
 ) {
     play(rt, &mut team, steps);
-    let (work, _book) = destroy(rt, team.worker, limit);
+    let (work, book) = destroy(rt, team.worker, limit);
+    drop(book);
     expect_same(rt, work.ran.as_slice(), ran);
     expect_same(rt, work.came_back.as_slice(), came_back);
+    drop(work);
+    drop(team.first);
+    drop(team.second);
 }
 
 /// Each item runs with the value that it was queued with, in the order of the queueings, whichever sender's.
@@ -343,4 +348,8 @@ fn destroy_goes_on_with_values(rt: HostRuntime) {
     };
     let balanced = balance_values_met(&mut book, &mut first, &mut second);
     expect_same(&rt, balanced, Ok(totals));
+    drop(book);
+    drop(work);
+    drop(second);
+    drop(first);
 }

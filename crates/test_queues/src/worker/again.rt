@@ -55,6 +55,7 @@ fn new_again<R: Abort>(rt: &R, alloc: Global) -> (Worker<Again>, Sender) {
     let last = take_last(rt, &owner, &mut senders);
     let second = take_last(rt, &owner, &mut senders);
     let first = take_last(rt, &owner, &mut senders);
+    drop(senders);
     (Worker::new(owner, last, Again::new(second), 1), first)
 }
 
@@ -65,11 +66,14 @@ type End = (&'static [u32], Answer, u64);
 fn play_out<R: Abort>(rt: &R, alloc: Global, steps: &[Step], end: End) {
     let (mut worker, mut first) = new_again(rt, alloc);
     play(rt, &mut worker, &mut first, steps);
-    let (work, _book) = destroy(rt, worker, 9);
+    let (work, book) = destroy(rt, worker, 9);
+    drop(book);
     let (ran, answer, queued) = end;
     expect_same(rt, work.order.as_slice(), ran);
     expect_same(rt, work.answer, Some(answer));
     expect_same(rt, work.sender.counts().queued, queued);
+    drop(work);
+    drop(first);
 }
 
 /// The item that runs is not pending: it is queued within its run, and runs once more.

@@ -59,4 +59,7 @@ fn ledgers_balance(rt: HostRuntime) {
     expect_same(&rt, missing_first, Err(Unbalanced::Missing(0)));
     expect_same(&rt, twice, Err(Unbalanced::Twice(1)));
     expect_same(&rt, once, Ok(totals));
+    drop(book);
+    drop(team.first);
+    drop(team.second);
 }

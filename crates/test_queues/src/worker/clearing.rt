@@ -53,6 +53,7 @@ fn new_noting<R: Abort>(rt: &R, alloc: Global) -> (Worker<Noting>, Sender) {
     let last = take_last(rt, &owner, &mut senders);
     let second = take_last(rt, &owner, &mut senders);
     let first = take_last(rt, &owner, &mut senders);
+    drop(senders);
     (Worker::new(owner, last, Noting::new(second), 1), first)
 }
 
@@ -60,8 +61,11 @@ fn new_noting<R: Abort>(rt: &R, alloc: Global) -> (Worker<Noting>, Sender) {
 fn check_found<R: Abort>(rt: &R, alloc: Global, steps: &[Step], found: &[bool]) {
     let (mut worker, mut first) = new_noting(rt, alloc);
     play(rt, &mut worker, &mut first, steps);
-    let (work, _book) = destroy(rt, worker, 9);
+    let (work, book) = destroy(rt, worker, 9);
+    drop(book);
     expect_same(rt, work.found.as_slice(), found);
+    drop(work);
+    drop(first);
 }
 
 /// The bit is clear before the function runs (`work_pending`).

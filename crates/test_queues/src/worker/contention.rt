@@ -158,6 +158,7 @@ fn check_balance<R: Abort>(
         totals.executed,
     );
     assert!(rt; totals.contended > 0);
+    drop(book);
 }
 
 /// An execution is owed where the worker's one try is lost to another sender. A worker that serves goes on at once there, the item
@@ -182,4 +183,6 @@ fn owing_goes_on(rt: HostRuntime) {
     assert!(rt; is_owing);
     assert!(rt; ring_goes_on(&mut worker));
     check_balance(&rt, worker, &mut first, &mut second);
+    drop(second);
+    drop(first);
 }

@@ -278,6 +278,7 @@ pub(crate) fn new_manned<R: Abort>(rt: &R, alloc: Global, items: u32) -> (Worker
     let (owner, mut senders) = new_queue(rt, alloc, items, 6);
     let own = take_last(rt, &owner, &mut senders);
     let crew = new_crew(rt, &owner, &mut senders);
+    drop(senders);
     (Worker::new(owner, own, Fixed::new(), 1), crew)
 }
 
@@ -318,4 +319,6 @@ fn six_senders_balance(rt: HostRuntime) {
         (totals.pending, totals.closed, totals.draining),
         (0, 0, 0),
     );
+    drop(book);
+    drop(crew);
 }

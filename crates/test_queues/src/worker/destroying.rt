@@ -21,4 +21,6 @@ fn destroy_goes_on(rt: HostRuntime) {
     expect_same(&rt, unfinished.left, 1);
     assert!(rt; unfinished.worker.is_closed());
     destroy_having_run(&rt, unfinished.worker, 1, &[0, 1, 2]);
+    drop(team.first);
+    drop(team.second);
 }

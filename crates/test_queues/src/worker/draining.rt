@@ -42,6 +42,8 @@ fn drain_goes_on_and_resumes(rt: HostRuntime) {
     destroy_having_run(&rt, team.worker, 0, &[0, 1, 2]);
     let counts = team.first.counts();
     expect_same(&rt, (counts.queued, counts.draining), (2, 1));
+    drop(team.first);
+    drop(team.second);
 }
 
 const ENDS: &[Step] = &[
@@ -58,6 +60,8 @@ fn destroy_ends_a_drain(rt: HostRuntime) {
     play(&rt, &mut team.worker, &mut team.first, ENDS);
     destroy_having_run(&rt, team.worker, 1, &[0, 1]);
     expect_same(&rt, queue_item(&rt, &mut team.first, 2), Answer::Closed);
+    drop(team.first);
+    drop(team.second);
 }
 
 /// Three drains in vain, of five executions each.
@@ -95,6 +99,8 @@ fn endless_drain_is_given_back(rt: HostRuntime) {
     play(&rt, &mut team.worker, &mut team.first, ENDLESS);
     let worker = destroy_in_vain(&rt, team.worker, &mut team.first);
     destroy_in_vain(&rt, worker, &mut team.first);
+    drop(team.first);
+    drop(team.second);
 }
 
 /// Queues an item over and over, until it is queued. How often it was answered that the queue drains.
@@ -194,6 +200,8 @@ fn run_once<R: Abort + Threads + Wait + Sync>(rt: &R, alloc: Global) {
         (u128::from(drains), 0),
     );
     assert!(rt; drains >= 4, "{drains}");
+    drop(book);
+    drop(crew);
 }
 
 #[test]

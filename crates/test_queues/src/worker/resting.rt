@@ -25,7 +25,9 @@ fn run_once<R: Abort + Threads + Wait + Sync>(
         on,
     };
     let (rests, wakes) = run_beside(rt, alloc, &mut worker, &mut crew, Job::Offer(offer));
-    let (work, _book) = destroy(rt, worker, 0);
+    let (work, book) = destroy(rt, worker, 0);
+    drop(book);
+    drop(crew);
     (rests, wakes, work.order.len())
 }
 
@@ -92,4 +94,6 @@ fn ready_and_rest(rt: HostRuntime) {
     assert!(rt; !rest(&rt, &mut worker));
     expect_same(&rt, run_out(&rt, &mut worker), 2);
     assert!(rt; rest(&rt, &mut worker));
+    drop(first);
+    drop(worker);
 }

@@ -72,6 +72,7 @@ fn served_worker_is_unparked(rt: HostRuntime) {
     let queued = serve_beside(&rt, rt.alloc(), &mut team, Beside::Late);
     expect_same(&rt, queued, (true, true));
     expect_same(&rt, team.worker.counts().executed, 2);
+    drop(team);
 }
 
 /// Has an item run, and then queues the stop item and unparks nobody. Answers what a second stop request found a while later:
@@ -150,4 +151,5 @@ fn served_worker_goes_on_behind_a_barrier(rt: HostRuntime) {
     let begun = serve_beside(&rt, rt.alloc(), &mut team, Beside::Barriers);
     expect_same(&rt, begun, (true, true));
     expect_same(&rt, team.worker.counts().executed, 5);
+    drop(team);
 }

@@ -77,6 +77,9 @@ fn senders_end_while_a_run_stops(rt: HostRuntime) {
     );
     assert!(rt; has_stopped);
     expect_same(&rt, executed, 5);
-    let (work, _book) = destroy(&rt, worker, 0);
+    let (work, book) = destroy(&rt, worker, 0);
+    drop(book);
     assert!(rt; work.has_waited);
+    drop(second);
+    drop(first);
 }

@@ -90,6 +90,7 @@ pub(crate) fn new_team<R: Abort, W: Work>(rt: &R, alloc: Global, items: u32, wor
     let last = take_last(rt, &owner, &mut senders);
     let second = take_last(rt, &owner, &mut senders);
     let first = take_last(rt, &owner, &mut senders);
+    drop(senders);
     Team {
         worker: Worker::new(owner, last, work, 1),
         first,
@@ -117,7 +118,8 @@ pub(crate) fn destroy_having_run<R: Abort>(
     limit: u32,
     order: &[u32],
 ) {
-    let (work, _book) = destroy(rt, worker, limit);
+    let (work, book) = destroy(rt, worker, limit);
+    drop(book);
     expect_same(rt, work.order.as_slice(), order);
 }
 
