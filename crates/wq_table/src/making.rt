@@ -13,7 +13,7 @@ use std::sync::Arc;
 use wq_core::place::word_count;
 use wq_words::Layout;
 
-// The words of a new queue, and the seat that speaks for all of whom none was cut off it yet.
+// The words of a new queue, and the seat that speaks for its owner, and for each sender whose own was not cut off it yet.
 #[derive(Drop)]
 struct Uncut<V> {
     words: Arc<Words<V>>,
@@ -31,7 +31,7 @@ fn new_words<V: Drop>(alloc: Global, layout: Layout, slots: usize) -> Result<Unc
     Ok(Uncut { words, seat })
 }
 
-// Cuts off the sender of this number, which is the next one.
+// Cuts off the seat of the sender of this number, which is the next one.
 fn cut_off<V: Drop>(
     uncut: &mut Uncut<V>,
     layout: Layout,
@@ -53,7 +53,7 @@ fn cut_off<V: Drop>(
     })
 }
 
-// Cuts off all senders, in turn.
+// Cuts off the seats of all senders, in turn.
 fn cut_all<V: Drop>(
     alloc: Global,
     uncut: &mut Uncut<V>,
