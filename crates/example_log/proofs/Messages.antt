@@ -7,7 +7,7 @@ use Rattle.std.specs.Vec.Iter.{into_iter_items, into_iter_steps}
 use Rattle.std.specs.declared.vec.IntoIter.{IntoIter}
 use Rattle.wq_values.specs.Known.{Known, IsSame}
 use Rattle.example_log.specs.declared.sending.Client.{Client}
-use Rattle.example_log.specs.declared.sending.Sent.{Sent}
+use Rattle.example_log.specs.declared.sending.ClientSent.{ClientSent}
 use Rattle.example_log.specs.declared.message.Log.{Log}
 use Rattle.example_log.specs.declared.message.Log.TheVariants.{Access, Errors}
 use Rattle.example_log.specs.declared.message.Message.{Message}
@@ -39,7 +39,7 @@ pub first_of : {X : Type 0} (n : ℕ) (all xs ys : List X) → n ≡ length xs �
 first_of n all xs ys count is = sym (take_at xs ys n (sym count)) ∙ ap (take n) (sym is)
 
 -- the client has sent the messages that came first, and all unless it was turned away
-pub has_sent : (client : Client) (sent : Sent) (all ms rest : List Message) → sent.count ≡ length ms → all ≡ ms ++ rest
+pub has_sent : (client : Client) (sent : ClientSent) (all ms rest : List Message) → sent.count ≡ length ms → all ≡ ms ++ rest
     → IsSame client.access.known sent.access.known → IsSame client.errors.known sent.errors.known
     → own_lines sent.access ≡ map Some (lines_to Access ms) → own_lines sent.errors ≡ map Some (lines_to Errors ms)
     → SendsUnlessTurned client.access.known.number all sent.count sent.access.known.seen sent.errors.known.seen → HasSent client all sent

@@ -16,7 +16,7 @@ use Rattle.example_log.specs.declared.message.Log.{Log}
 use Rattle.example_log.specs.declared.message.Log.TheVariants.{Access, Errors}
 use Rattle.example_log.specs.declared.message.Message.{Message}
 use Rattle.example_log.specs.declared.sending.Client.{Client}
-use Rattle.example_log.specs.declared.sending.Sent.{Sent}
+use Rattle.example_log.specs.declared.sending.ClientSent.{ClientSent}
 use Rattle.example_log.specs.declared.clients.Clients.{Clients}
 use Rattle.example_log.specs.declared.clients.SentAndStopped.{SentAndStopped}
 use Rattle.example_log.specs.Text.{Line}
@@ -78,7 +78,7 @@ SendsUnlessTurned s messages count access errors = count < length messages → I
 
 -- the same two senders have brought the lines of so many messages, from the first on, each log its own, and of all, unless a log
 -- turned one away
-pub record HasSent (client : Client) (messages : List Message) (sent : Sent) : Type 0 where
+pub record HasSent (client : Client) (messages : List Message) (sent : ClientSent) : Type 0 where
   pub same_access : IsSame client.access.known sent.access.known
   pub same_errors : IsSame client.errors.known sent.errors.known
   pub to_access : own_lines sent.access ≡ map Some (lines_to Access (take sent.count messages))

@@ -4,7 +4,7 @@ ghost use Rattle.wq_value_pool.specs.Known.{IsCallerOf};
 ghost use Rattle.example_log.specs.Sent.{HasSent, IsNewClient, AreNewClients, StopsAlone, HaveSent};
 
 use crate::message::{Line, Message};
-use crate::sending::{ACCESS, Client, ERRORS, ITEMS, Sent, send_all, stop};
+use crate::sending::{ACCESS, Client, ClientSent, ERRORS, ITEMS, send_all, stop};
 use crate::writer::Writer;
 use std::sync::Wait;
 use std::thread::{Threads, join};
@@ -105,8 +105,8 @@ fn stop_both<R: Wait>(
 /// What the clients sent, and the senders that stopped the logs of accesses and of errors.
 #[derive(Drop)]
 pub(crate) struct SentAndStopped {
-    pub(crate) first: Sent,
-    pub(crate) second: Sent,
+    pub(crate) first: ClientSent,
+    pub(crate) second: ClientSent,
     pub(crate) access: ValueSender<Line>,
     pub(crate) errors: ValueSender<Line>,
 }

@@ -32,7 +32,7 @@ pub(crate) struct Client {
 
 /// The senders of a client, and how many of its messages they queued.
 #[derive(Drop)]
-pub(crate) struct Sent {
+pub(crate) struct ClientSent {
     pub(crate) access: ValueSender<Line>,
     pub(crate) errors: ValueSender<Line>,
     pub(crate) count: usize,
@@ -173,7 +173,7 @@ pub(crate) fn send_all<R: Wait>(
     client: Client,
     first: u32,
     messages: Vec<Message>,
-) -> Sent
+) -> ClientSent
     requires client { IsNewClient pool.now.ready client.access.known.number (first + 4) client }
     requires queues { 2 ≤ length pool.now.workers }
     ensures sent { HasSent client messages.items result }
@@ -189,7 +189,7 @@ pub(crate) fn send_all<R: Wait>(
         count = count.wrapping_add(1);
     }
     let Client { access, errors, .. } = client;
-    Sent {
+    ClientSent {
         access,
         errors,
         count,

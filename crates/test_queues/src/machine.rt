@@ -7,7 +7,7 @@ use wq_core::Step::{Back, Begin, Chain, Check, Drain, End, Hold, Link, Push, Res
 use wq_core::{Reply, Seat, Step, chain_and_batch, each_step_keeps_sound, first_push};
 use wq_machine::{Core, Keeper, ReplayError, StepError, replay, replay_on};
 use wq_meaning::RunError;
-use wq_text::{Kind, LineError, ParseError, Schedule, parse_steps};
+use wq_text::{FaultKind, LineError, ParseError, Schedule, parse_steps};
 use wq_words::{Event, Layout, Why, check_history};
 
 const S0: Seat = Seat::Sender(0);
@@ -351,5 +351,5 @@ fn words_of_errors(rt: HostRuntime) {
     expect_words(&rt, alloc, &RunError::Memory, "memory");
     expect_words(&rt, alloc, &ParseError::Memory, "memory");
     expect_words(&rt, alloc, &LineError::Memory, "memory");
-    expect_words(&rt, alloc, &LineError::Fault(Kind::Word), "Word");
+    expect_words(&rt, alloc, &LineError::Fault(FaultKind::Word), "Word");
 }

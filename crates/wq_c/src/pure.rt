@@ -2,13 +2,13 @@
 ghost use Rattle.wq_rows.specs.Codes.{SaidHistory};
 
 use std::alloc::Global;
-use wq_rows::{Row, check_code};
+use wq_rows::{EventRow, check_code};
 
 /// Checks whether these rows are the history of a queue of this size, by `check_code` of `wq_rows`.
 #[unsafe(no_mangle)]
 pub extern "C" fn wq_c_check_history(
     alloc: Global,
-    rows: &[Row],
+    rows: &[EventRow],
     items: u32,
     barriers: u32,
     senders: u32,

@@ -20,7 +20,7 @@ use Rattle.wq_calls.proofs.Taken.{walked_lengths}
 use Rattle.wq_words.proofs.Running.{runs_told, idle_told}
 
 -- nothing is accepted, begins or ends by the event
-pub record IsQuiet (e : Event) : Type 0 where
+pub record LeavesLists (e : Event) : Type 0 where
   pub accepts : accepted (e ∷ []) ≡ []
   pub begins : begun (e ∷ []) ≡ []
   pub ends : ended (e ∷ []) ≡ []
@@ -40,7 +40,7 @@ run_out layout h legal complete =
 none_some : (xs : List ℕ) (i k : ℕ) → length xs ≤ i → slice_get xs i ≡ Some k → ⊥
 none_some xs i k past is = let none = slice_get_past xs i past in absurd (cc)
 
-quiet : (h : List Event) (e : Event) → IsAtEnd h → MayFollow h e → IsQuiet e
+quiet : (h : List Event) (e : Event) → IsAtEnd h → MayFollow h e → LeavesLists e
 quiet h (Push s k) out may = absurd (may.1 (closed_shuts h out.closed))
 quiet h (Chain k) out may = let runs = may.1 in let a = out.begun_all in let b = out.ended_all in absurd (omega arith)
 quiet h (Begin k) out may = let a = out.begun_all in absurd (none_some (accepted h) (length (begun h)) k (omega arith) may.1)

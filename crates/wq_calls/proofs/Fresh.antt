@@ -6,10 +6,10 @@ use Rattle.wq_words.specs.History.{is_push, shut, fresh}
 use Rattle.wq_words.specs.Legal.{IsAllowed}
 use Rattle.wq_words.proofs.Closed.{closed_stays, closed_push_yes, shut_quiet}
 use Rattle.wq_words.proofs.Legal.{legal_induction}
-use Rattle.wq_words.proofs.Listed.{IsQuiet, quiet, fresh_push, fresh_cut, fresh-open, listed-shut}
+use Rattle.wq_words.proofs.Listed.{CutsNothing, quiet, fresh_push, fresh_cut, fresh-open, listed-shut}
 
 -- an event that neither pushes nor turns
-stays : (h : List Event) (e : Event) → IsQuiet e → is_push e ≡ false → (IsDraining h → fresh h ≡ 0) → IsDraining (h ++ e ∷ []) → fresh (h ++ e ∷ []) ≡ 0
+stays : (h : List Event) (e : Event) → CutsNothing e → is_push e ≡ false → (IsDraining h → fresh h ≡ 0) → IsDraining (h ++ e ∷ []) → fresh (h ++ e ∷ []) ≡ 0
 stays h e q none before is =
     let was : IsShut h = IsShut_from_shut h (sym (shut_quiet h e q.no_resume q.no_drain q.no_close) ∙ shut_from_IsShut (h ++ e ∷ []) is.0) in
     let zero = before (was, λ closed. is.1 (closed_stays h e closed)) in

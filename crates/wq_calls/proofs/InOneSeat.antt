@@ -5,7 +5,7 @@ use Rattle.wq_calls.proofs.Common.{Known, IsSame, Sees, Owning, owning, alone_at
 use Rattle.wq_calls.proofs.Common.{KnownPair, pair_owner, AreSeated}
 use Rattle.wq_table.specs.Places.{chosen}
 use Rattle.wq_table.specs.SlotChairs.{ValueMeet, ValueJoined}
-use Rattle.wq_table.specs.Beside.{Follow}
+use Rattle.wq_table.specs.Beside.{OthersFollow}
 use Rattle.wq_table.proofs.Beside.{Saw, second_saw, still_two, first_saw, two_still}
 use Rattle.wq_calls.specs.Pairs.{pair_sender, seats_view}
 use Rattle.wq_calls.proofs.Meeting.{met_plain, met_slots, meet_executes, meet_owner_sees, meet_owner_layout}
@@ -18,7 +18,7 @@ sender_is s sent pair = λ i. record { queue = s.chair.queue; layout = pair.one_
 -- the owner made steps, and the two have another seat of it
 module _ {V : Type 0} (s t : OwnerSeat V) (sent : Sent) (pair : AreSeated s sent) (owns : OwnsSeat t)
     (same : IsSame (owner_view (owning s)) (owner_view (owning t))) (l : Learns 0 s.chair t.chair) where
-  f : Follow 0 (standing_of s.chair) (standing_of t.chair)
+  f : OthersFollow 0 (standing_of s.chair) (standing_of t.chair)
   f = l.follow
 
   saw_second : Saw f.machine (part_in 1 s.chair) (part_in 1 t.chair)
@@ -55,7 +55,7 @@ owns_at s q is o = subst (λ (p : Part). OwnsQueue (record s { chair = record { 
 
 -- the sender made steps, and the two have the chair of it
 module _ {V : Type 0} (s : OwnerSeat V) (q : ValueStanding V) (sent : Sent) (pair : AreSeated s sent) (l : Learns 1 s.chair q) where
-  g : Follow 1 (standing_of s.chair) (standing_of q)
+  g : OthersFollow 1 (standing_of s.chair) (standing_of q)
   g = l.follow
 
   saw_first : Saw g.machine s.chair.first.part q.first.part

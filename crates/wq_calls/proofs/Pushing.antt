@@ -9,7 +9,7 @@ use Rattle.wq_table.proofs.Learns.{learns_then}
 use Rattle.wq_calls.specs.Tells.{PostsAs}
 use Rattle.wq_calls.proofs.Drained.{grows_longer, met_now}
 use Rattle.wq_calls.proofs.SenderHands.{look_hand, link_hand, lost_hand, won_slot, posts_from, bring_from}
-use Rattle.wq_calls.proofs.Tells.{tells_held, tells_then, tells_others, look_tells, link_tells, push_tells, Looks, Links, Wins, Loses, sender_made}
+use Rattle.wq_calls.proofs.Tells.{tells_held, tells_then, tells_others, look_tells, link_tells, push_tells, LookTells, Links, Wins, Loses, sender_made}
 
 -- the seat tried to push k, and it came to this
 pub record Attempted {V : Type 0} (at k : ℕ) (came : Posted) (a b : ValueStanding V) : Type 0 where
@@ -21,7 +21,7 @@ pub record Attempted {V : Type 0} (at k : ℕ) (came : Posted) (a b : ValueStand
   pub slots : PostsSlot at k came a b
 
 module _ {V : Type 0} (at k w : ℕ) (a b : ValueStanding V) (sender : IsSender (part_in at a).stage) (look : ValueSteps at None step.Look w a b) where
-  looked : Looks w (part_in at a) (part_in at b)
+  looked : LookTells w (part_in at a) (part_in at b)
   looked = look_tells w (part_in at a) (part_in at b) sender look.steps.moves.makes
 
   sends : IsSender (part_in at b).stage

@@ -110,13 +110,13 @@ seen_look : (word : ℕ) (st : Stage) → IsSender st → HasSeen word (stage_af
 seen_look word (Sends r) is = refl
 seen_look word (Owns a b d) is = elim is [ ]
 
-pub record Looks (word : ℕ) (p q : Part) : Type 0 where
+pub record LookTells (word : ℕ) (p q : Part) : Type 0 where
   pub told : Tells [] p q
   pub head_is : head_word_of q.seen ≡ word
   pub drains : word ≡ draining_word → IsDraining q.seen
   pub has_seen : HasSeen word q.stage
 
-pub look_tells : (word : ℕ) (p q : Part) → IsSender p.stage → Makes Look word p q → Looks word p q
+pub look_tells : (word : ℕ) (p q : Part) → IsSender p.stage → Makes Look word p q → LookTells word p q
 look_tells word p q is makes =
     let e = after_look makes.before p.seat p.stage is in record {
       told = tells Look word p q makes _ [] e refl (sym (append-nil makes.before.history)) refl;
@@ -223,11 +223,11 @@ bit : (b : Bool) → ((if b then 1 else 0) == 0) ≡ not b
 bit true = refl
 bit false = refl
 
-pub record Checks (k word : ℕ) (p q : Part) : Type 0 where
+pub record CheckTells (k word : ℕ) (p q : Part) : Type 0 where
   pub told : Tells [] p q
   pub clear : (word == 0) ≡ not (pending q.seen k)
 
-pub check_tells : (k word : ℕ) (p q : Part) → IsSender p.stage → k < number_count p.layout → Makes (Check k) word p q → Checks k word p q
+pub check_tells : (k word : ℕ) (p q : Part) → IsSender p.stage → k < number_count p.layout → Makes (Check k) word p q → CheckTells k word p q
 check_tells k word p q is small makes =
     let m = makes.before in let e = after_check m p.seat k p.stage is in
     let seen : m.history ≡ q.seen = sym (makes.seen_is ∙ ap (λ (x : Machine). x.history) e) in record {

@@ -18,10 +18,10 @@ ghost use Rattle.wq_calls.specs.Tries.{Tries, IsHeldAfter, Settles};
 ghost use Rattle.wq_calls.specs.Hands.{HoldsSlot, IsToBring, IsEmptied, IsEmptiedAfter, LeavesHand, PostsSlot, SettlesSlot, QueuesSlot};
 
 use crate::counts::SenderCounts;
-use crate::spins::{Spins, Waits};
+use crate::spins::{Pauses, Spins};
 use crate::trying::try_push;
 use std::sync::Wait;
-use wq_table::{Chair, Place};
+use wq_table::{Chair, WhichPart};
 use wq_words::{Answer, Layout, Posted};
 
 /// What a sender keeps of what it has seen, and how long it gives way after a lost exchange.
@@ -58,7 +58,7 @@ impl Sent {
 }
 
 /// Sets the PENDING bit of a number, whose slot comes to hand with nothing in it.
-pub fn hold_number<V, P: Place>(chair: &mut Chair<V>, sent: &mut Sent, number: u32) -> bool
+pub fn hold_number<V, P: WhichPart>(chair: &mut Chair<V>, sent: &mut Sent, number: u32) -> bool
     requires sends { Sends (sending_in P.at chair.old sent.old) }
     requires number { number < number_count sent.old.layout }
     ensures sends { Sends (sending_in P.at chair.new sent.new) }
@@ -75,7 +75,7 @@ pub fn hold_number<V, P: Place>(chair: &mut Chair<V>, sent: &mut Sent, number: u
 }
 
 // One try to push a number that this sender holds: look, link, push. A sender that finds the queue shut holds it still.
-pub(crate) fn attempt<V, P: Place>(chair: &mut Chair<V>, sent: &mut Sent, number: u32) -> Posted
+pub(crate) fn attempt<V, P: WhichPart>(chair: &mut Chair<V>, sent: &mut Sent, number: u32) -> Posted
     requires sends { Sends (sending_in P.at chair.old sent.old) }
     requires number { number < number_count sent.old.layout }
     requires held { Holds (part_in P.at chair.old).seen sent.old.number number }
@@ -99,7 +99,7 @@ pub(crate) fn attempt<V, P: Place>(chair: &mut Chair<V>, sent: &mut Sent, number
 }
 
 // Gives up a number that this sender holds, after as many tries as were asked for.
-pub(crate) fn give_up<V, P: Place>(chair: &mut Chair<V>, sent: &mut Sent, number: u32)
+pub(crate) fn give_up<V, P: WhichPart>(chair: &mut Chair<V>, sent: &mut Sent, number: u32)
     requires sends { Sends (sending_in P.at chair.old sent.old) }
     requires number { number < number_count sent.old.layout }
     requires held { Holds (part_in P.at chair.old).seen sent.old.number number }
@@ -115,7 +115,7 @@ pub(crate) fn give_up<V, P: Place>(chair: &mut Chair<V>, sent: &mut Sent, number
 }
 
 /// Gives back a number that this sender holds, since it saw the queue closed.
-pub fn find_closed<V, P: Place>(chair: &mut Chair<V>, sent: &mut Sent, number: u32)
+pub fn find_closed<V, P: WhichPart>(chair: &mut Chair<V>, sent: &mut Sent, number: u32)
     requires sends { Sends (sending_in P.at chair.old sent.old) }
     requires number { number < number_count sent.old.layout }
     requires held { Holds (part_in P.at chair.old).seen sent.old.number number }
@@ -132,7 +132,7 @@ pub fn find_closed<V, P: Place>(chair: &mut Chair<V>, sent: &mut Sent, number: u
 }
 
 // Gives back a number that this sender holds, since it saw the queue draining.
-pub(crate) fn turn_back<V, P: Place>(chair: &mut Chair<V>, sent: &mut Sent, number: u32)
+pub(crate) fn turn_back<V, P: WhichPart>(chair: &mut Chair<V>, sent: &mut Sent, number: u32)
     requires sends { Sends (sending_in P.at chair.old sent.old) }
     requires number { number < number_count sent.old.layout }
     requires held { Holds (part_in P.at chair.old).seen sent.old.number number }
@@ -149,7 +149,7 @@ pub(crate) fn turn_back<V, P: Place>(chair: &mut Chair<V>, sent: &mut Sent, numb
 }
 
 /// Tries to push a number that this sender holds, so many times, and at least once. It spins between the tries.
-pub fn try_tries<V, P: Place>(
+pub fn try_tries<V, P: WhichPart>(
     chair: &mut Chair<V>,
     sent: &mut Sent,
     number: u32,
@@ -167,10 +167,10 @@ pub fn try_tries<V, P: Place>(
         (sender_view (sending_in P.at chair.new sent.new)) }
     ensures slots { PostsSlot P.at number result chair.old chair.new }
 {
-    let mut waits = Waits::new(sent.spins);
+    let mut pauses = Pauses::new(sent.spins);
     for _ in 1..tries {
         match attempt::<V, P>(chair, sent, number) {
-            Posted::Contended => waits.pass(),
+            Posted::Contended => pauses.pass(),
             posted => return posted,
         }
     }
@@ -178,7 +178,7 @@ pub fn try_tries<V, P: Place>(
 }
 
 // Tries to push a number that this sender holds, until no other seat changes the list meanwhile.
-pub(crate) fn try_waiting<R: Wait, V, P: Place>(
+pub(crate) fn try_waiting<R: Wait, V, P: WhichPart>(
     rt: &R,
     chair: &mut Chair<V>,
     sent: &mut Sent,
@@ -197,10 +197,10 @@ pub(crate) fn try_waiting<R: Wait, V, P: Place>(
     ensures slots { PostsSlot P.at number result chair.old chair.new }
     ensures settled { result ≢ tried.Contended }
 {
-    let mut waits = Waits::new(sent.spins);
+    let mut pauses = Pauses::new(sent.spins);
     for _ in rt.forever() {
         match attempt::<V, P>(chair, sent, number) {
-            Posted::Contended => waits.pass(),
+            Posted::Contended => pauses.pass(),
             posted => return posted,
         }
     }
@@ -209,7 +209,7 @@ pub(crate) fn try_waiting<R: Wait, V, P: Place>(
 
 // What a queueing answers whose tries to push came to this. Where they did not push the number, its slot is empty, and it is
 // given back.
-pub(crate) fn settle<V, P: Place>(
+pub(crate) fn settle<V, P: WhichPart>(
     chair: &mut Chair<V>,
     sent: &mut Sent,
     number: u32,
@@ -245,7 +245,7 @@ pub(crate) fn settle<V, P: Place>(
 }
 
 /// Queues a number that brings nothing, with at most so many tries.
-pub fn queue_number<V, P: Place>(
+pub fn queue_number<V, P: WhichPart>(
     chair: &mut Chair<V>,
     sent: &mut Sent,
     number: u32,
@@ -270,7 +270,7 @@ pub fn queue_number<V, P: Place>(
 
 /// Queues a number that brings nothing, and tries until no other seat changes the list meanwhile. The number is held between
 /// the tries.
-pub fn queue_waiting<R: Wait, V, P: Place>(
+pub fn queue_waiting<R: Wait, V, P: WhichPart>(
     rt: &R,
     chair: &mut Chair<V>,
     sent: &mut Sent,

@@ -16,7 +16,7 @@ const TIMES: u32 = 8;
 /// How many `spin_loop`s a seat passes where it gives way to the others. A sender that lost an exchange passes twice as many,
 /// then four times, then eight times as many: the sender that won keeps the line of the head meanwhile and wins again, so that
 /// the line moves once for many pushes. A worker that serves passes them once after a short take, so that the next one finds
-/// more. Waits that begin with one `spin_loop` cost twice the time with three senders of 256 items each. It is time alone: no
+/// more. Pauses that begin with one `spin_loop` cost twice the time with three senders of 256 items each. It is time alone: no
 /// clause speaks of it.
 #[derive(Clone, Copy, PartialEq, Eq, Debug)]
 pub struct Spins {
@@ -62,16 +62,16 @@ fn pass(count: u32) {
     }
 }
 
-/// The waits of a sender that loses one exchange after another: twice as long, then four times, then eight times.
+/// The pauses of a sender that loses one exchange after another: twice as long, then four times, then eight times.
 #[derive(Drop)]
-pub(crate) struct Waits {
+pub(crate) struct Pauses {
     next: u32,
     most: u32,
 }
 
-impl Waits {
-    pub(crate) fn new(first: Spins) -> Waits {
-        Waits {
+impl Pauses {
+    pub(crate) fn new(first: Spins) -> Pauses {
+        Pauses {
             next: first.count.saturating_mul(2),
             most: first.count.saturating_mul(8),
         }

@@ -11,11 +11,11 @@ ghost use Rattle.wq_calls.specs.Tells.{PostsAs};
 ghost use Rattle.wq_calls.specs.Hands.{IsToBring, PostsSlot};
 
 use wq_core::place::link_word;
-use wq_table::{Chair, Place};
+use wq_table::{Chair, WhichPart};
 use wq_words::{Head, Posted};
 
 /// One try to push a number that the sender holds: look, link, push. A sender that finds the queue shut holds it still.
-pub(crate) fn try_push<V, P: Place>(chair: &mut Chair<V>, number: u32) -> Posted
+pub(crate) fn try_push<V, P: WhichPart>(chair: &mut Chair<V>, number: u32) -> Posted
     requires sender { IsSender (part_in P.at chair.old).stage }
     requires number { number < number_count (part_in P.at chair.old).layout }
     requires held { Holds (part_in P.at chair.old).seen (part_in P.at chair.old).seat number }

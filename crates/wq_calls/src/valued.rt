@@ -15,7 +15,7 @@ ghost use Rattle.wq_calls.specs.Valued.{sender_with, IsFilledAfter, SettlesValue
 use crate::sent::{Sent, find_closed, give_up, hold_number, try_tries, try_waiting, turn_back};
 use crate::value_answer::ValueAnswer;
 use std::sync::Wait;
-use wq_table::{Chair, Place};
+use wq_table::{Chair, WhichPart};
 use wq_words::Posted;
 
 // Empties the slot in front of the hand, in which this value lies.
@@ -31,7 +31,7 @@ pub(crate) fn take_value<V>(chair: &mut Chair<V>, number: u32) -> V
 
 // What a queueing answers whose tries to push came to this. Where they did not push the item, it is given back, and its value
 // comes back.
-fn settle_value<V, P: Place>(
+fn settle_value<V, P: WhichPart>(
     chair: &mut Chair<V>,
     sent: &mut Sent,
     item: u32,
@@ -71,7 +71,7 @@ fn settle_value<V, P: Place>(
 }
 
 /// Queues an item with a value, with at most so many tries.
-pub fn queue_value<V: Drop, P: Place>(
+pub fn queue_value<V: Drop, P: WhichPart>(
     chair: &mut Chair<V>,
     sent: &mut Sent,
     item: u32,
@@ -98,7 +98,7 @@ pub fn queue_value<V: Drop, P: Place>(
 }
 
 /// Queues an item with a value, and tries until no other seat changes the list meanwhile. The item is held between the tries.
-pub fn queue_value_wait<R: Wait, V: Drop, P: Place>(
+pub fn queue_value_wait<R: Wait, V: Drop, P: WhichPart>(
     rt: &R,
     chair: &mut Chair<V>,
     sent: &mut Sent,

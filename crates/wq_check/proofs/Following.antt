@@ -10,14 +10,14 @@ use Rattle.wq_words.specs.declared.event.Event.TheVariants.{End}
 use Rattle.wq_words.specs.History.{closed, shut, is_close, is_drain, is_resume, HasDrained}
 use Rattle.wq_words.specs.Legal.{IsAllowed}
 use Rattle.wq_words.specs.Keeper.{taken_over, keeper_after}
-use Rattle.wq_words.proofs.Keepers.{Gives, gives_back, gives_begin, gives_chain, gives_hold, gives_push, keeper_push}
+use Rattle.wq_words.proofs.Keepers.{LeavesWith, gives_back, gives_begin, gives_chain, gives_hold, gives_push, keeper_push}
 use Rattle.wq_words.proofs.Legal.{legal_nil, legal_push}
 use Rattle.wq_words.proofs.Closed.{closed_push_no, closed_push_yes, shut_quiet, shut_close, shut_drain, shut_resume, drained_stays}
 use Rattle.circular_buffer.specs.Buffer.{keep_last}
 use Rattle.wq_check.specs.declared.queue.Place.TheVariants.{Held, Waiting}
 use Rattle.wq_check.specs.Checked.{QueueState, queue_state, place_by_keeper, StandsAfter}
 use Rattle.wq_check.proofs.Waits.{few_unbegun}
-use Rattle.wq_check.proofs.Standing.{place_at}
+use Rattle.wq_check.proofs.Standing.{number_place}
 
 -- the queue once the event came
 abbrev pub after_event : QueueState → Event → QueueState
@@ -47,7 +47,7 @@ module _ (c : QueueState) (h : List Event) (o : StandsAfter c h) where
   some_begun = prefix_length (begun h) (accepted h) (in_order c.layout h o.legal).begun_first
 
   -- one number moves
-  moved : (e : Event) (k : ℕ) (y : Keeper) → k < number_count c.layout → Gives k e y
+  moved : (e : Event) (k : ℕ) (y : Keeper) → k < number_count c.layout → LeavesWith k e y
       → (j : ℕ) → j < number_count c.layout → get_or (set c.places k (place_by_keeper y)) j Idle ≡ place_by_keeper (keeper (h ++ e ∷ []) j)
   moved e k y lt gives j small =
       elim (cases_eq j k) [
@@ -57,7 +57,7 @@ module _ (c : QueueState) (h : List Event) (o : StandsAfter c h) where
 
   -- none moves
   unmoved : (e : Event) → ((j : ℕ) (x : Keeper) → place_by_keeper (keeper_after j x e) ≡ place_by_keeper x)
-      → (j : ℕ) → j < number_count c.layout → place_at c j ≡ place_by_keeper (keeper (h ++ e ∷ []) j)
+      → (j : ℕ) → j < number_count c.layout → number_place c j ≡ place_by_keeper (keeper (h ++ e ∷ []) j)
   unmoved e quiet j small = o.places_are j small ∙ sym (ap place_by_keeper (keeper_push h e j) ∙ quiet j (keeper h j))
 
   -- one more waits

@@ -12,7 +12,7 @@ use Rattle.wq_words.specs.History.{accepted_by, begun_by, ended_by}
 use Rattle.wq_words.specs.Legal.{IsAllowed}
 use Rattle.std.proofs.lemmas.List.{same_from_push}
 use Rattle.wq_words.proofs.Legal.{legal_induction}
-use Rattle.wq_words.proofs.Order.{IsInOrder, idle-same}
+use Rattle.wq_words.proofs.Order.{RunsInOrder, idle-same}
 use Rattle.wq_words.proofs.Prefixes.{prefix_whole}
 use Rattle.wq_check.specs.Shows.{is_of_items, item_part, ShowsItemsOfLegalHistory}
 use Rattle.wq_check.proofs.Lists.{drop_some}
@@ -81,7 +81,7 @@ module _ (layout : Layout) where
   parts xs ys zs is = sym (filter-append is_item xs ys) ∙ ap items_in is
 
   module _ (h : List Event) (legal : IsLegal layout h) where
-    part_in_order : IsInOrder (item_part layout h)
+    part_in_order : RunsInOrder (item_part layout h)
     part_in_order =
         let i = in_order layout h legal in
         let rest = i.ended_first.0 in

@@ -19,7 +19,7 @@ use Rattle.wq_check.proofs.Waits.{waits_bit}
 use Rattle.wq_words.proofs.Times.{times_from_none}
 
 -- the history shows the trace, and at most one execution has begun whose start was not seen
-pub record Tells (layout : Layout) (t : List Mark) (h : List Event) : Type 0 where
+pub record ShowsTrace (layout : Layout) (t : List Mark) (h : List Event) : Type 0 where
   pub shows : Shows t h
   pub legal : IsLegal layout h
   pub queued_is : accepted h ≡ queued t
@@ -84,14 +84,14 @@ one_of (x ∷ y ∷ xs) e = absurd (omega arith)
 pub zero_or : (n : ℕ) → (0 < n → ⊥) → n ≡ 0
 zero_or n never = omega (arith, never)
 
-module _ (layout : Layout) (t : List Mark) (h : List Event) (o : Tells layout t h) where
+module _ (layout : Layout) (t : List Mark) (h : List Event) (o : ShowsTrace layout t h) where
   pub sizes : length (begun h) ≡ length (started t) + length o.early
   sizes = ap length o.started_is ∙ length-append (started t) o.early
 
   -- the next one begins, and its start was not seen
   pub unseen_begin : (k : ℕ) → k < layout.items → length (started t) ≡ length (returned t) → length o.early ≡ 0
       → slice_get (queued t) (length (started t)) ≡ Some k
-      → (o' : Tells layout t (h ++ event.Begin k ∷ [])) × (length o'.early ≡ 1)
+      → (o' : ShowsTrace layout t (h ++ event.Begin k ∷ [])) × (length o'.early ≡ 1)
   unseen_begin k small rests none at =
       let rest : ¬ IsRunning h = λ runs. absurd (omega (arith, runs, sizes, ap length o.returned_is)) in
       let place : length (begun h) ≡ length (started t) = omega (arith, sizes) in
@@ -119,7 +119,7 @@ module _ (layout : Layout) (t : List Mark) (h : List Event) (o : Tells layout t 
 
   -- a number that does not wait is queued
   pub queue_more : (k : ℕ) → k < layout.items → times k (drop (length (begun h)) (accepted h)) ≡ 0
-      → Tells layout (t ++ Queue k ∷ []) (h ++ event.Hold 0 k ∷ event.Push 0 k ∷ [])
+      → ShowsTrace layout (t ++ Queue k ∷ []) (h ++ event.Hold 0 k ∷ event.Push 0 k ∷ [])
   queue_more k small none =
       let seat : 0 < layout.senders = omega (arith, layout.in_limits.2.0) in
       let number : k < number_count layout = omega (arith, small) in
@@ -146,7 +146,7 @@ module _ (layout : Layout) (t : List Mark) (h : List Event) (o : Tells layout t 
       }
 
   -- the start of an execution that had begun unseen
-  pub start_seen : (k : ℕ) → length o.early ≡ 1 → slice_get (queued t) (length (started t)) ≡ Some k → Tells layout (t ++ Start k ∷ []) h
+  pub start_seen : (k : ℕ) → length o.early ≡ 1 → slice_get (queued t) (length (started t)) ≡ Some k → ShowsTrace layout (t ++ Start k ∷ []) h
   start_seen k one at =
       let j = one_of o.early one in
       let is : begun h ≡ started t ++ j.0 ∷ [] = o.started_is ∙ ap (λ xs. started t ++ xs) j.1 in
@@ -173,7 +173,7 @@ module _ (layout : Layout) (t : List Mark) (h : List Event) (o : Tells layout t 
         items = o.items;
       }
 
-  pub end_seen : (k : ℕ) → k < layout.items → slice_get (started t) (length (returned t)) ≡ Some k → Tells layout (t ++ End k ∷ []) (h ++ event.End k ∷ [])
+  pub end_seen : (k : ℕ) → k < layout.items → slice_get (started t) (length (returned t)) ≡ Some k → ShowsTrace layout (t ++ End k ∷ []) (h ++ event.End k ∷ [])
   end_seen k small at =
       let within : length (returned t) < length (started t) = slice_get_within (started t) (length (returned t)) k at in
       let none : length o.early ≡ 0 = none_early within in
@@ -204,9 +204,9 @@ pub other_unseen : (t : List Mark) → length (started t) ≢ length (returned t
 other_unseen t ne = rw (ne_eqb _ _ ne) refl
 
 abbrev pub Next : Layout → List Mark → Type 0
-Next layout t = (h : List Event) × Tells layout t h
+Next layout t = (h : List Event) × ShowsTrace layout t h
 
-module _ (layout : Layout) (t : List Mark) (h : List Event) (o : Tells layout t h) where
+module _ (layout : Layout) (t : List Mark) (h : List Event) (o : ShowsTrace layout t h) where
   start_more : (k : ℕ) → k < layout.items → MayShow t (Start k) → Next layout (t ++ Start k ∷ [])
   start_more k small may =
       elim (cases_lt (length o.early) 1) [
@@ -261,7 +261,7 @@ module _ (layout : Layout) (t : List Mark) (h : List Event) (o : Tells layout t 
   mark_more (Start k) small may = start_more k small may
   mark_more (End k) small may = (h ++ event.End k ∷ [], end_seen layout t h o k small may)
 
-opening : (layout : Layout) → Tells layout [] []
+opening : (layout : Layout) → ShowsTrace layout [] []
 opening layout = record {
   shows = nothing;
   legal = legal_nil layout;

@@ -28,8 +28,8 @@ use Rattle.wq_words.proofs.Times.{times_from_Contains, Contains_from_times, time
 use Rattle.wq_check.proofs.Lists.{drop_some, never_empty}
 use Rattle.wq_words.proofs.Cases.{none_told}
 
-abbrev pub place_at : QueueState → ℕ → Place
-place_at c k = get_or c.places k Idle
+abbrev pub number_place : QueueState → ℕ → Place
+number_place c k = get_or c.places k Idle
 
 -- places and keepers
 idle_home : (x : Keeper) → place_by_keeper x ≡ Idle → x ≡ Home
@@ -119,19 +119,19 @@ not-is true P e = (λ is p. false≢true is, λ none. absurd (none (e.0 refl)))
 not-is false P e = (λ is p. false≢true (e.1 p), λ none. refl)
 
 module _ (c : QueueState) (h : List Event) (o : StandsAfter c h) where
-  pub idle-free : (k : ℕ) → k < number_count c.layout → (place_at c k ≡ Idle) ↔ (¬ IsPending h k)
+  pub idle-free : (k : ℕ) → k < number_count c.layout → (number_place c k ≡ Idle) ↔ (¬ IsPending h k)
   idle-free k lt = (
     λ e. keeps_from_keeper c.layout h o.legal k Home (idle_home (keeper h k) (sym (o.places_are k lt) ∙ e)),
     λ free. o.places_are k lt ∙ ap place_by_keeper (keeper_from_keeps c.layout h o.legal k Home free),
   )
 
-  pub away-pending : (k : ℕ) → k < number_count c.layout → (place_at c k ≢ Idle) ↔ IsPending h k
+  pub away-pending : (k : ℕ) → k < number_count c.layout → (number_place c k ≢ Idle) ↔ IsPending h k
   away-pending k lt = (
     λ ne. away_pending (keeper h k) _ _ (λ e. ne (o.places_are k lt ∙ e)) (kept c.layout h o.legal 0 k).1,
     λ is e. (idle-free k lt).0 e is,
   )
 
-  pub held-holds : (s k : ℕ) → k < number_count c.layout → (place_at c k ≡ Held s) ↔ Holds h s k
+  pub held-holds : (s k : ℕ) → k < number_count c.layout → (number_place c k ≡ Held s) ↔ Holds h s k
   held-holds s k lt = (
     λ e. keeps_from_keeper c.layout h o.legal k (Sender s) (held_sender s (keeper h k) (sym (o.places_are k lt) ∙ e)),
     λ holds. o.places_are k lt ∙ ap place_by_keeper (keeper_from_keeps c.layout h o.legal k (Sender s) holds),
@@ -178,7 +178,7 @@ module _ (c : QueueState) (h : List Event) (o : StandsAfter c h) where
       (λ none. omega (arith, size, most, fewest, none), λ same. omega (arith, size, same))
 
   -- a number waits where its place says so
-  pub waiting-waits : (k : ℕ) → k < number_count c.layout → (place_at c k ≡ Waiting) ↔ Contains (unbegun h) k
+  pub waiting-waits : (k : ℕ) → k < number_count c.layout → (number_place c k ≡ Waiting) ↔ Contains (unbegun h) k
   waiting-waits k lt = (
     λ e. Contains_from_times k (unbegun h) (omega (arith, waits_bit c.layout h o.legal k, waiting_bit (keeper h k) (sym (o.places_are k lt) ∙ e))),
     λ is. o.places_are k lt ∙ bit_waiting (keeper h k) (omega (arith, waits_bit c.layout h o.legal k, times_from_Contains k (unbegun h) is)),

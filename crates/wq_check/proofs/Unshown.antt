@@ -10,7 +10,7 @@ use Rattle.wq_words.specs.History.{accepted_by, begun_by, ended_by}
 use Rattle.wq_words.specs.Legal.{IsAllowed}
 use Rattle.wq_words.proofs.Growing.{filter_map_push_some, filter_map_push_none, slice_get_push, take_append}
 use Rattle.wq_words.proofs.Legal.{legal_front, legal_next}
-use Rattle.wq_words.proofs.Order.{IsInOrder, idle-same}
+use Rattle.wq_words.proofs.Order.{RunsInOrder, idle-same}
 use Rattle.wq_words.proofs.Places.{keeper_from_keeps}
 use Rattle.wq_check.specs.Trace.{queued_by, started_by, returned_by, FollowsRules}
 use Rattle.wq_check.specs.Shows.{Shows, nothing, hides, queues, begins, starts, ends, ShowsLegalHistory}
@@ -21,7 +21,7 @@ use Rattle.wq_check.proofs.Shown.{nil_end, one_of, zero_or}
 -- histories in which numbers begin and end in their order, one at a time, and none is accepted while it waits
 pub record TakesTurns (P : List Event → Type 0) : Type 0 where
   pub front : (h : List Event) (e : Event) → P (h ++ e ∷ []) → P h
-  pub ordered : (h : List Event) → P h → IsInOrder h
+  pub ordered : (h : List Event) → P h → RunsInOrder h
   pub accepts : (h : List Event) (e : Event) (k : ℕ) → P (h ++ e ∷ []) → accepted_by e ≡ Some k → times k (unbegun h) ≡ 0
   pub begins : (h : List Event) (k : ℕ) → P (h ++ event.Begin k ∷ []) → length (ended h) ≡ length (begun h)
   pub ends : (h : List Event) (k : ℕ) → P (h ++ event.End k ∷ []) → running h ≡ Some k
@@ -53,7 +53,7 @@ fewer k n m xs none =
     let behind : times k (drop m (drop n xs)) ≡ times k (drop (n + m) xs) = ap (times k) (drop-drop m n xs) in
     omega arith
 
-module _ (t : List Mark) (h : List Event) (i : IsInOrder h) (o : Shown t h) where
+module _ (t : List Mark) (h : List Event) (i : RunsInOrder h) (o : Shown t h) where
   may_queue : (k : ℕ) → times k (unbegun h) ≡ 0 → MayShow t (Queue k)
   may_queue k waits = none_from_times k (surely_unbegun t) not_unbegun
     where

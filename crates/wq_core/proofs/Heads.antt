@@ -8,13 +8,13 @@ use Rattle.wq_core.proofs.Common.{Closed, Draining, Drain, listed-shut, inl, inr
 use Rattle.wq_core.proofs.Common.{open_from_shut, open_from_closed, shut_quiet, has_drained, draining_word, TakesPushes, item_of, said_at, head_at, number_at}
 
 -- the event leaves the list, the close, the drain and the rest as they are
-pub record IsQuiet (e : Event) : Type 0 where
+pub record LeavesHead (e : Event) : Type 0 where
   pub no_close : is_close e ≡ false
   pub no_resume : is_resume e ≡ false
   pub no_rest : is_rest e ≡ false
   pub no_work : is_work e ≡ false
 
-pub quiet : {e : Event} → is_close e ≡ false → is_resume e ≡ false → is_rest e ≡ false → is_work e ≡ false → IsQuiet e
+pub quiet : {e : Event} → is_close e ≡ false → is_resume e ≡ false → is_rest e ≡ false → is_work e ≡ false → LeavesHead e
 quiet no_close no_resume no_rest no_work = record { no_close = no_close; no_resume = no_resume; no_rest = no_rest; no_work = no_work }
 
 -- a Drain sets the queue to work
@@ -47,7 +47,7 @@ head_word_open h opens = ap (marked (wakes h)) (head_of_open h opens)
 pub head_word_unshut : (h : List Event) → shut h ≡ false → head_word_of h ≡ marked (wakes h) (head_of_list (listed h))
 head_word_unshut h is = head_word_open h (open_from_shut h is)
 
-pub head_word_quiet : (h : List Event) (e : Event) → IsQuiet e → listed_after (listed h) e ≡ listed h → head_word_of (h ++ e ∷ []) ≡ head_word_of h
+pub head_word_quiet : (h : List Event) (e : Event) → LeavesHead e → listed_after (listed h) e ≡ listed h → head_word_of (h ++ e ∷ []) ≡ head_word_of h
 head_word_quiet h e q no_list =
     let list : listed (h ++ e ∷ []) ≡ listed h = fold_push listed_after [] h e ∙ no_list in
     let still : closed (h ++ e ∷ []) ≡ closed h = closed_push_no h e q.no_close in
@@ -56,7 +56,7 @@ head_word_quiet h e q no_list =
     rw (still, shut_still, list, rest) refl
 
 -- a queue that rests has nothing on its list, also after such an event
-pub rests_quiet : (h : List Event) (e : Event) → IsQuiet e → listed_after (listed h) e ≡ listed h → (wakes h ≡ true → listed h ≡ [])
+pub rests_quiet : (h : List Event) (e : Event) → LeavesHead e → listed_after (listed h) e ≡ listed h → (wakes h ≡ true → listed h ≡ [])
     → wakes (h ++ e ∷ []) ≡ true → listed (h ++ e ∷ []) ≡ []
 rests_quiet h e q no_list rests on =
     let list : listed (h ++ e ∷ []) ≡ listed h = fold_push listed_after [] h e ∙ no_list in

@@ -6,7 +6,7 @@ use Rattle.wq_core.proofs.Common.{Sender, keeper_after, keeper, growing, legal_p
 use Rattle.wq_core.proofs.Common.{sender_from_bit, item_place, word_count, Machine, head, item_word, done_word, happened, head_word_of, AreChained, IsSound}
 use Rattle.wq_words.proofs.Times.{times}
 use Rattle.wq_core.proofs.Privates.{FollowKeepers, follow_quiet, AreLinked, linked_quiet, AreSeen, seen_after}
-use Rattle.wq_core.proofs.Heads.{IsQuiet, head_word_quiet, rests_quiet, ended_quiet}
+use Rattle.wq_core.proofs.Heads.{LeavesHead, head_word_quiet, rests_quiet, ended_quiet}
 
 -- the PENDING bit as a word, by the history and by the keeper
 bit_word : (sets clears : ℕ) (x : Keeper) → sets ≡ clears + pending_bit x → (if nat_lt clears sets then 1 else 0) ≡ pending_bit x
@@ -89,7 +89,7 @@ module _ (m : Machine) (o : IsSound m) where
 
   -- an event that changes nothing but the history, and moves no number
   pub sound_quiet : (e : Event) → IsAllowed m.layout m.history e → ((j : ℕ) (x : Keeper) → keeper_after j x e ≡ x) → accepted_by e ≡ None
-      → begun_by e ≡ None → ended_by e ≡ None → ((ks : List ℕ) → listed_after ks e ≡ ks) → IsQuiet e
+      → begun_by e ≡ None → ended_by e ≡ None → ((ks : List ℕ) → listed_after ks e ≡ ks) → LeavesHead e
       → IsSound (happened m e)
   sound_quiet e allowed spares no_accept no_begin no_end no_list quiet =
       let b = by_keepers m o in

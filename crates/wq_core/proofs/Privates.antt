@@ -3,7 +3,7 @@ use Rattle.wq_core.proofs.Common.{TakesPushes, HasSeenCause, IsCause, cause_stay
 use Rattle.wq_core.proofs.Common.{List, [], ◌∷◌, ◌++◌, length, get_or, set, None, Some, Option, if◌then◌else◌, refl, sym, ap, ◌∙◌, arith, inl, inr}
 use Rattle.wq_core.proofs.Common.{get_or-set_other, get_or-set_same, eqb-false, cases_eq, Why, Event, Keeper, Sender, keeper_after, keeper, Private}
 use Rattle.wq_core.proofs.Common.{link_place, link_to, nothing_seen, other_than, unlinked}
-use Rattle.wq_words.proofs.Keepers.{Gives, Spares, keeper_push}
+use Rattle.wq_words.proofs.Keepers.{LeavesWith, Spares, keeper_push}
 
 -- at the place of each number the list has what f says of its keeper
 abbrev pub FollowKeepers : {X : Type 0} → (Keeper → X) → X → (ℕ → ℕ) → ℕ → List X → List Event → Type 0
@@ -11,7 +11,7 @@ FollowKeepers f default place n xs h = (k : ℕ) → k < n → get_or xs (place 
 
 module _ {X : Type 0} (f : Keeper → X) (default : X) (place : ℕ → ℕ) (n : ℕ) (xs : List X) (h : List Event) (e : Event) where
   -- what is stored of k is as its new keeper wants it, and every other is as it was
-  pub follow_give : (k : ℕ) (y : Keeper) → ((j : ℕ) → place j ≡ place k → j ≡ k) → place k < length xs → Gives k e y
+  pub follow_give : (k : ℕ) (y : Keeper) → ((j : ℕ) → place j ≡ place k → j ≡ k) → place k < length xs → LeavesWith k e y
       → FollowKeepers f default place n xs h → FollowKeepers f default place n (set xs (place k) (f y)) (h ++ e ∷ [])
   follow_give k y own in' gives old j lt =
       elim (cases_eq j k) [
@@ -20,7 +20,7 @@ module _ {X : Type 0} (f : Keeper → X) (default : X) (place : ℕ → ℕ) (n 
       ]
 
   -- what is as it should be need not be written
-  pub follow_same : (k : ℕ) (y : Keeper) → Gives k e y → f y ≡ f (keeper h k) → FollowKeepers f default place n xs h
+  pub follow_same : (k : ℕ) (y : Keeper) → LeavesWith k e y → f y ≡ f (keeper h k) → FollowKeepers f default place n xs h
       → FollowKeepers f default place n xs (h ++ e ∷ [])
   follow_same k y gives same_bit old j lt =
       elim (cases_eq j k) [
@@ -76,12 +76,12 @@ linked_spares n words seats h e k spares free old s j is =
     (o.0, keeper_push h e j ∙ spares j (keeper h j) ne ∙ o.1, o.2, o.3)
 
 -- what seat s now keeps in private it has linked before, and not k
-abbrev pub Keeps : Private → Private → ℕ → Type 0
-Keeps old new k = (j : ℕ) → new.linked ≡ Some j → (j ≢ k) × (old.linked ≡ Some j) × (new.seen ≡ old.seen)
+abbrev pub KeepsLinked : Private → Private → ℕ → Type 0
+KeepsLinked old new k = (j : ℕ) → new.linked ≡ Some j → (j ≢ k) × (old.linked ≡ Some j) × (new.seen ≡ old.seen)
 
 -- sender s gives the number k away
 pub linked_give : (n : ℕ) (words : List ℕ) (seats : List Private) (h : List Event) (e : Event) (s k : ℕ) (p : Private) → s < length seats
-    → Spares k e → keeper h k ≡ Sender s → Keeps (get_or seats s nothing_seen) p k
+    → Spares k e → keeper h k ≡ Sender s → KeepsLinked (get_or seats s nothing_seen) p k
     → AreLinked n words seats h → AreLinked n words (set seats s p) (h ++ e ∷ [])
 linked_give n words seats h e s k p in' spares mine keeps old t j is =
     elim (cases_eq t s) [ inl same ↦ own same | inr ne ↦ others ne ]
@@ -164,7 +164,7 @@ none_seen h Draining is = absurd cc
 none_seen h _ is = tt
 
 -- what a sender keeps linked once it has given k back
-pub keeps_unlinked : (p : Private) (k : ℕ) → Keeps p (unlinked p k) k
+pub keeps_unlinked : (p : Private) (k : ℕ) → KeepsLinked p (unlinked p k) k
 keeps_unlinked p k j is = go p.linked refl is
   where
     some : (i : ℕ) → p.linked ≡ Some i → (q : Bool) → (i == k) ≡ q → (if q then None else Some i) ≡ Some j

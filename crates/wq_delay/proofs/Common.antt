@@ -25,7 +25,7 @@ pub use Rattle.wq_words.proofs.DelayTable.{without_first, due_then_later, first_
 pub use Rattle.wq_words.proofs.DelayTable.{first_false, second_false, ordered-placed, ordered-without, all-placed, all-without, on_table-placed, all_by}
 pub use Rattle.wq_words.proofs.DelayTable.{length_placed}
 pub use Rattle.wq_live.specs.Known.{Known, Sees}
-pub use Rattle.wq_delay.specs.declared.timetable.Place.{Place}
+pub use Rattle.wq_delay.specs.declared.timetable.DuePlace.{DuePlace}
 pub use Rattle.wq_delay.specs.declared.timetable.DueItem.{DueItem}
 pub use Rattle.wq_delay.specs.Rows.{IsFirstDue, place_in, head_by, number_by, later_than, turn_of, IsWheel, AreOnTable, AreFound, entry_at, entry_of, times}
 pub use Rattle.wq_delay.specs.Rows.{place_at, SaysPlace, entries_of, stands, is_due, AreDue, IsTimetable, AreApart, waiting, is_place, IsGathering}

@@ -1,7 +1,7 @@
 -- The ticks before which nothing of a slot is due: how a slot's ring gives one, and that they are so after each call.
 use Rattle.wq_delay.proofs.Common.{◌≡◌, ℕ, ◌+◌, ◌%◌, ◌<◌, ◌≤◌, min, Bool, true, false, cond, ◌&&◌, ◌||◌, ◌≢◌, List, length, get_or, set, nat_lt, nat_le}
 use Rattle.wq_delay.proofs.Common.{◌==◌, slice_index, Some, None, All, Option, sym, refl, ap, ◌∙◌, subst, mod-lt, arith, nat_tests, get_or_read, get_or-set_same}
-use Rattle.wq_delay.proofs.Common.{get_or-set_other, length-set, Entry, on_table, Place, place_at, place_in, head_by, number_by, later_than, turn_of, SaysPlace}
+use Rattle.wq_delay.proofs.Common.{get_or-set_other, length-set, Entry, on_table, DuePlace, place_at, place_in, head_by, number_by, later_than, turn_of, SaysPlace}
 use Rattle.wq_delay.proofs.Common.{is_due, waiting, IsWheel, IsGathering, AreFound, StillWaits, IsClean, AreEarliest, WaitFrom, AreRings, same_Some}
 use Rattle.wq_delay.proofs.Rounds.{at_or}
 use Rattle.wq_delay.proofs.Standing.{later_same, later_some}
@@ -11,19 +11,19 @@ use Rattle.wq_delay.proofs.Leading.{row_due}
 use Rattle.wq_delay.proofs.Wheel.{item_low}
 
 -- at the place x of the slot with this head, what waits before it is due at the tick t or later
-pub record Passing (places : List (Option Place)) (row : List Entry) (head t x : ℕ) : Type 0 where
+pub record Passing (places : List (Option DuePlace)) (row : List Entry) (head t x : ℕ) : Type 0 where
   pub low : x < length places + 256
   pub here : head_by (length places) x (waiting places row x) ≡ head
-  pub done : (k : ℕ) (p : Place) → waiting places row k ≡ Some p → length places + p.due % 256 ≡ head
+  pub done : (k : ℕ) (p : DuePlace) → waiting places row k ≡ Some p → length places + p.due % 256 ≡ head
       → (x ≢ head → p.arming + 1 < number_by (waiting places row x)) → t ≤ p.due
 
-module _ (places : List (Option Place)) (next previous : List ℕ) (row : List Entry) (head : ℕ)
+module _ (places : List (Option DuePlace)) (next previous : List ℕ) (row : List Entry) (head : ℕ)
     (high : length places ≤ head) (low : head < length places + 256)
     (wheel : IsWheel (length places) next previous (waiting places row)) where
   abbrev size : ℕ
   size = length places
 
-  abbrev w : ℕ → Option Place
+  abbrev w : ℕ → Option DuePlace
   w k = waiting places row k
 
   r : AreRings (slice_index next) (slice_index previous) (λ k. head_by size k (w k)) (λ k. number_by (w k)) (size + 256)
@@ -32,10 +32,10 @@ module _ (places : List (Option Place)) (next previous : List ℕ) (row : List E
   head_own : head_by size head (w head) ≡ head
   head_own = ap (head_by size head) (wheel.heads head high)
 
-  slot_item : (k : ℕ) (p : Place) → w k ≡ Some p → head_by size k (w k) ≡ size + p.due % 256
+  slot_item : (k : ℕ) (p : DuePlace) → w k ≡ Some p → head_by size k (w k) ≡ size + p.due % 256
   slot_item k p is = ap (head_by size k) is
 
-  number_item : (k : ℕ) (p : Place) → w k ≡ Some p → number_by (w k) ≡ p.arming + 1
+  number_item : (k : ℕ) (p : DuePlace) → w k ≡ Some p → number_by (w k) ≡ p.arming + 1
   number_item k p is = ap number_by is
 
   starts : (t : ℕ) → Passing places row head t (slice_index next head)
@@ -61,14 +61,14 @@ module _ (places : List (Option Place)) (next previous : List ℕ) (row : List E
     y = slice_index next x
 
     -- a place that is not the head is an item that waits in the slot
-    pub x_item : (p : Place) × (w x ≡ Some p)
+    pub x_item : (p : DuePlace) × (w x ≡ Some p)
     x_item = by (w x) refl l.here
       where
-        by : (o : Option Place) → w x ≡ o → head_by size x o ≡ head → (p : Place) × (w x ≡ Some p)
+        by : (o : Option DuePlace) → w x ≡ o → head_by size x o ≡ head → (p : DuePlace) × (w x ≡ Some p)
         by None is at = absurd (ne at)
         by (Some p) is at = (p, is)
 
-    abbrev q : Place
+    abbrev q : DuePlace
     q = x_item.0
 
     pub passing_here : (x < size) × (place_in places x ≡ Some q)
@@ -81,7 +81,7 @@ module _ (places : List (Option Place)) (next previous : List ℕ) (row : List E
     y_rises far = r.rises x l.low (λ s. far (s ∙ l.here))
 
     -- before the next place stands no more than before x, and x
-    between : (s : ℕ) → s ≤ t → (k : ℕ) (p : Place) → k ≢ x → w k ≡ Some p → size + p.due % 256 ≡ head
+    between : (s : ℕ) → s ≤ t → (k : ℕ) (p : DuePlace) → k ≢ x → w k ≡ Some p → size + p.due % 256 ≡ head
         → (y ≢ head → p.arming + 1 < number_by (w y)) → s ≤ p.due
     between s less k p other is slot below =
         let k_low : k < size + 256 = let e = item_low wheel k p is in omega arith in
@@ -104,7 +104,7 @@ module _ (places : List (Option Place)) (next previous : List ℕ) (row : List E
     next_read z read = get_or_read next x z (omega (arith, l.low, wheel.next_length)) read 0
 
     -- the lesser of the tick so far and that of x
-    pub passing_more : (s : ℕ) (p : Place) → place_in places x ≡ Some p → s ≡ min t p.due → (z : ℕ) → z ≡ get_or next x z
+    pub passing_more : (s : ℕ) (p : DuePlace) → place_in places x ≡ Some p → s ≡ min t p.due → (z : ℕ) → z ≡ get_or next x z
         → Passing places row head s z
     passing_more s p at s_is z read =
         let less : s ≤ t = omega arith in let early : s ≤ p.due = omega arith in
@@ -112,7 +112,7 @@ module _ (places : List (Option Place)) (next previous : List ℕ) (row : List E
           low = r.next_low x l.low;
           here = y_here;
           done = λ k o is slot below. at_or (λ v. w v ≡ Some o → s ≤ o.due) x k
-              (λ here. let e = same_Some p o (sym at ∙ (waits_there places row x o here).1) in let f = ap (λ (v : Place). v.due) e in omega arith)
+              (λ here. let e = same_Some p o (sym at ∙ (waits_there places row x o here).1) in let f = ap (λ (v : DuePlace). v.due) e in omega arith)
               (λ other there. between s less k o other there slot below) is;
         })
 
@@ -124,11 +124,11 @@ module _ (places : List (Option Place)) (next previous : List ℕ) (row : List E
         let up = y_rises far in omega arith))
 
 -- what still waits waited before
-earliest_fewer : (earliest : List ℕ) (w w' : ℕ → Option Place) → AreEarliest earliest w
-    → ((k : ℕ) (p : Place) → w' k ≡ Some p → w k ≡ Some p) → AreEarliest earliest w'
+earliest_fewer : (earliest : List ℕ) (w w' : ℕ → Option DuePlace) → AreEarliest earliest w
+    → ((k : ℕ) (p : DuePlace) → w' k ≡ Some p → w k ≡ Some p) → AreEarliest earliest w'
 earliest_fewer earliest w w' a fewer = record { slots = a.slots; early = λ k p is. a.early k p (fewer k p is) }
 
-module _ (earliest : List ℕ) (places : List (Option Place)) (row : List Entry) (a : AreEarliest earliest (waiting places row)) (slot : ℕ) where
+module _ (earliest : List ℕ) (places : List (Option DuePlace)) (row : List Entry) (a : AreEarliest earliest (waiting places row)) (slot : ℕ) where
   -- a slot that is passed over
   pub clean_passed : (v now : ℕ) → slot < 256 → v ≡ get_or earliest slot v → now < v → IsClean places row (length places + slot) now
   clean_passed v now low read late k p is at =
@@ -149,7 +149,7 @@ module _ (earliest : List ℕ) (places : List (Option Place)) (row : List Entry)
   }
 
 -- what is found where a slot is passed over
-pub found_passed : (places : List (Option Place)) (earliest : List ℕ) (t now n : ℕ) (es : List Entry) → n < 256
+pub found_passed : (places : List (Option DuePlace)) (earliest : List ℕ) (t now n : ℕ) (es : List Entry) → n < 256
     → AreEarliest earliest (λ k. later_than t (place_in places k)) → now < slice_index earliest ((t + 1 + n) % 256)
     → AreFound places t now n es → AreFound places t now (n + 1) es
 found_passed places earliest t now n es small a late f = record {
@@ -157,7 +157,7 @@ found_passed places earliest t now n es small a late f = record {
   which = λ k p is. f.which k p is ∙ by k p is (nat_le p.due now) (nat_le p.due t) (turn_of t p.due == n) refl refl refl;
 }
   where
-    by : (k : ℕ) (p : Place) → place_in places k ≡ Some p → (b c d : Bool)
+    by : (k : ℕ) (p : DuePlace) → place_in places k ≡ Some p → (b c d : Bool)
         → nat_le p.due now ≡ b → nat_le p.due t ≡ c → (turn_of t p.due == n) ≡ d
         → (b && (c || nat_lt (turn_of t p.due) n)) ≡ (b && (c || nat_lt (turn_of t p.due) (n + 1)))
     by k p is false c d u v x = refl
@@ -175,10 +175,10 @@ found_passed places earliest t now n es small a late f = record {
         more m ne false less = sym (grind (arith, nat_tests))
 
 -- an item is put into its slot
-module _ (earliest earliest' : List ℕ) (places : List (Option Place)) (tick k due arming : ℕ)
+module _ (earliest earliest' : List ℕ) (places : List (Option DuePlace)) (tick k due arming : ℕ)
     (a : AreEarliest earliest (λ j. later_than tick (place_in places j))) (low : k < length places)
     (is : earliest' ≡ set earliest (due % 256) (min (slice_index earliest (due % 256)) due)) where
-  abbrev v : Option Place
+  abbrev v : Option DuePlace
   v = Some (place_at due arming)
 
   abbrev least : ℕ
@@ -203,14 +203,14 @@ module _ (earliest earliest' : List ℕ) (places : List (Option Place)) (tick k 
     early = λ j p waits. at_or (λ z. later_than tick (place_in (set places k v) z) ≡ Some p → slice_index earliest' (p.due % 256) ≤ p.due) k j
         (λ here. let same : place_at due arming ≡ p =
         same_Some (place_at due arming) p (sym (get_or-set_same places k v None low) ∙ (later_same tick (place_in (set places k v) k) p here).0) in
-        subst (λ (z : Place). slice_index earliest' (z.due % 256) ≤ z.due) same noted)
+        subst (λ (z : DuePlace). slice_index earliest' (z.due % 256) ≤ z.due) same noted)
         (λ other there. let old : later_than tick (place_in places j) ≡ Some p =
         ap (later_than tick) (sym (get_or-set_other places k j v None other)) ∙ there in
         let e = a.early j p old in let f = lower (p.due % 256) in omega arith) waits;
   }
 
 -- an item is taken off
-pub earliest_taken : (earliest : List ℕ) (places : List (Option Place)) (tick k : ℕ) → AreEarliest earliest (λ j. later_than tick (place_in places j))
+pub earliest_taken : (earliest : List ℕ) (places : List (Option DuePlace)) (tick k : ℕ) → AreEarliest earliest (λ j. later_than tick (place_in places j))
     → k < length places → AreEarliest earliest (λ j. later_than tick (place_in (set places k None) j))
 earliest_taken earliest places tick k a low =
     earliest_fewer earliest (λ j. later_than tick (place_in places j)) (λ j. later_than tick (place_in (set places k None) j)) a
@@ -219,7 +219,7 @@ earliest_taken earliest places tick k a low =
     (λ other at. ap (later_than tick) (sym (get_or-set_other places k j None None other)) ∙ at) is)
 
 -- what is due later does not stand in the row
-late_waits : (places : List (Option Place)) (row : List Entry) (now k : ℕ) (p : Place) → All (SaysPlace places) row → All (λ e. e.due ≤ now) row
+late_waits : (places : List (Option DuePlace)) (row : List Entry) (now k : ℕ) (p : DuePlace) → All (SaysPlace places) row → All (λ e. e.due ≤ now) row
     → place_in places k ≡ Some p → now < p.due → waiting places row k ≡ Some p
 late_waits places row now k p valid due is late = by (on_table k row) refl
   where
@@ -229,22 +229,22 @@ late_waits places row now k p valid due is late = by (on_table k row) refl
         let early : p.due ≤ now = grind (arith, nat_tests) in absurd (omega arith)
     by false off = is
 
-module _ {places : List (Option Place)} {earliest : List ℕ} {tick : ℕ} {given : List (Option Place)} (value : given ≡ places) where
+module _ {places : List (Option DuePlace)} {earliest : List ℕ} {tick : ℕ} {given : List (Option DuePlace)} (value : given ≡ places) where
   -- the table is led on
   pub earliest_start : AreEarliest earliest (λ k. later_than tick (place_in places k)) → (row : List Entry)
-      → ((k : ℕ) (p : Place) → waiting given row k ≡ Some p → tick < p.due) → AreEarliest earliest (waiting given row)
+      → ((k : ℕ) (p : DuePlace) → waiting given row k ≡ Some p → tick < p.due) → AreEarliest earliest (waiting given row)
   earliest_start a row ahead = earliest_fewer earliest (λ k. later_than tick (place_in places k)) (waiting given row) a
-      (λ k p is. ap (λ (z : List (Option Place)). later_than tick (place_in z k)) (sym value)
+      (λ k p is. ap (λ (z : List (Option DuePlace)). later_than tick (place_in z k)) (sym value)
       ∙ (ap (later_than tick) (waits_there given row k p is).1 ∙ later_some tick p (ahead k p is)))
 
   pub earliest_led : {next previous : List ℕ} (row : List Entry) → IsGathering given next previous row tick → AreEarliest earliest (waiting given row)
       → AreEarliest earliest (λ k. later_than tick (place_in places k))
   earliest_led row g a = earliest_fewer earliest (waiting given row) (λ k. later_than tick (place_in places k)) a
       (λ k p is. let e = later_same tick (place_in places k) p is in
-      late_waits given row tick k p g.valid g.due (ap (λ (z : List (Option Place)). place_in z k) value ∙ e.0) e.1)
+      late_waits given row tick k p g.valid g.due (ap (λ (z : List (Option DuePlace)). place_in z k) value ∙ e.0) e.1)
 
 -- a new table, on which nothing waits
-pub earliest_new : (earliest : List ℕ) (places : List (Option Place)) (tick : ℕ) → length earliest ≡ 256 → ((k : ℕ) → place_in places k ≡ None)
+pub earliest_new : (earliest : List ℕ) (places : List (Option DuePlace)) (tick : ℕ) → length earliest ≡ 256 → ((k : ℕ) → place_in places k ≡ None)
     → AreEarliest earliest (λ k. later_than tick (place_in places k))
 earliest_new earliest places tick slots none =
     record { slots = slots; early = λ k p is. let e : None ≡ Some p = sym (ap (later_than tick) (none k)) ∙ is in absurd (cc) }

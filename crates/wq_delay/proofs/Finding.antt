@@ -1,7 +1,7 @@
 -- A slot is gone through place by place, and what is due is found, while all stays where it is.
 use Rattle.wq_delay.proofs.Common.{◌≡◌, ℕ, ◌+◌, ◌-◌, ◌*◌, ◌/◌, ◌%◌, ◌<◌, ◌≤◌, Bool, true, false, ◌&&◌, ◌||◌, ◌≢◌, List, [], ◌∷◌, ◌++◌, length, get_or}
 use Rattle.wq_delay.proofs.Common.{nat_lt, nat_le, ◌==◌, slice_index, Some, None, Option, sym, refl, ap, ◌∙◌, subst, mod-lt, arith, mod-add-div'}
-use Rattle.wq_delay.proofs.Common.{add-mul-mod_self_right, nat_tests, get_or_read, Entry, on_table, Place, place_in, head_by, number_by, later_than, turn_of}
+use Rattle.wq_delay.proofs.Common.{add-mul-mod_self_right, nat_tests, get_or_read, Entry, on_table, DuePlace, place_in, head_by, number_by, later_than, turn_of}
 use Rattle.wq_delay.proofs.Common.{IsWheel, AreOnTable, AreFound, entry_at, AreRings, same_Some}
 use Rattle.wq_delay.proofs.Rounds.{at_or}
 use Rattle.wq_delay.proofs.Standing.{later_same, later_some}
@@ -23,19 +23,19 @@ slot_turn t n due late low is =
     let a = mod-add-div' (t + 1 + j) 256 in let b = mod-add-div' (t + 1 + n) 256 in omega arith
 
 -- an item that waits before the place x of the slot, or any where x is its head
-abbrev pub is_behind : ℕ → ℕ → Place → ℕ → Bool
+abbrev pub is_behind : ℕ → ℕ → DuePlace → ℕ → Bool
 is_behind head x p number = (x == head) || nat_lt (p.arming + 1) number
 
 -- due at the tick t, or in one of the first n slots after that, or in the next where so far it was met
-abbrev pub is_passed : ℕ → ℕ → Bool → Place → Bool
+abbrev pub is_passed : ℕ → ℕ → Bool → DuePlace → Bool
 is_passed t n met p = nat_le p.due t || (nat_lt (turn_of t p.due) n || ((turn_of t p.due == n) && met))
 
 -- at the place x of the n-th slot after the tick t, what is due and waits before it was found
-pub record Finding (places : List (Option Place)) (t now n head : ℕ) (es : List Entry) (x : ℕ) : Type 0 where
+pub record Finding (places : List (Option DuePlace)) (t now n head : ℕ) (es : List Entry) (x : ℕ) : Type 0 where
   pub on : AreOnTable places es
   pub low : x < length places + 256
   pub here : head_by (length places) x (later_than t (place_in places x)) ≡ head
-  pub which : (k : ℕ) (p : Place) → place_in places k ≡ Some p
+  pub which : (k : ℕ) (p : DuePlace) → place_in places k ≡ Some p
       → on_table k es ≡ (nat_le p.due now && is_passed t n (is_behind head x p (number_by (later_than t (place_in places x)))) p)
 
 -- tests of what is passed, which are the same where they are so of what is later and of this turn
@@ -46,13 +46,13 @@ passed_alike true false true d e f same = refl
 passed_alike true false false true e f same = same refl refl
 passed_alike true false false false e f same = refl
 
-module _ (places : List (Option Place)) (next previous : List ℕ) (t now n head : ℕ) (small : n < 256)
+module _ (places : List (Option DuePlace)) (next previous : List ℕ) (t now n head : ℕ) (small : n < 256)
     (head_is : head ≡ length places + (t + 1 + n) % 256)
     (wheel : IsWheel (length places) next previous (λ k. later_than t (place_in places k))) where
   abbrev size : ℕ
   size = length places
 
-  abbrev w : ℕ → Option Place
+  abbrev w : ℕ → Option DuePlace
   w k = later_than t (place_in places k)
 
   abbrev number : ℕ → ℕ
@@ -64,14 +64,14 @@ module _ (places : List (Option Place)) (next previous : List ℕ) (t now n head
   pub head_low : (size ≤ head) × (head < size + 256)
   head_low = let e = mod-lt (t + 1 + n) {m = 256} (omega arith) in (omega arith, omega arith)
 
-  waits : (k : ℕ) (p : Place) → place_in places k ≡ Some p → t < p.due → w k ≡ Some p
+  waits : (k : ℕ) (p : DuePlace) → place_in places k ≡ Some p → t < p.due → w k ≡ Some p
   waits k p is late = ap (later_than t) is ∙ later_some t p late
 
   -- an item of this turn stands in the ring of the head
-  in_slot : (k : ℕ) (p : Place) → place_in places k ≡ Some p → t < p.due → turn_of t p.due ≡ n → head_by size k (w k) ≡ head
+  in_slot : (k : ℕ) (p : DuePlace) → place_in places k ≡ Some p → t < p.due → turn_of t p.due ≡ n → head_by size k (w k) ≡ head
   in_slot k p is late turn = ap (head_by size k) (waits k p is late) ∙ (let e = turn_slot t n p.due late turn in omega arith)
 
-  number_item : (k : ℕ) (p : Place) → place_in places k ≡ Some p → t < p.due → number k ≡ p.arming + 1
+  number_item : (k : ℕ) (p : DuePlace) → place_in places k ≡ Some p → t < p.due → number k ≡ p.arming + 1
   number_item k p is late = ap number_by (waits k p is late)
 
   head_own : head_by size head (w head) ≡ head
@@ -101,7 +101,7 @@ module _ (places : List (Option Place)) (next previous : List ℕ) (t now n head
       none true false false true = refl
       none true false false false = refl
 
-      first : (k : ℕ) (p : Place) → place_in places k ≡ Some p → t < p.due → turn_of t p.due ≡ n
+      first : (k : ℕ) (p : DuePlace) → place_in places k ≡ Some p → t < p.due → turn_of t p.due ≡ n
           → is_behind head (slice_index next head) p (number (slice_index next head)) ≡ false
       first k p is late turn =
           let low = place_low places k p is in let e = number_item k p is late in
@@ -133,14 +133,14 @@ module _ (places : List (Option Place)) (next previous : List ℕ) (t now n head
     abbrev y : ℕ
     y = slice_index next x
 
-    pub x_item : (q : Place) × (w x ≡ Some q) × (size + q.due % 256 ≡ head)
+    pub x_item : (q : DuePlace) × (w x ≡ Some q) × (size + q.due % 256 ≡ head)
     x_item = by (w x) refl l.here
       where
-        by : (o : Option Place) → w x ≡ o → head_by size x o ≡ head → (q : Place) × (w x ≡ Some q) × (size + q.due % 256 ≡ head)
+        by : (o : Option DuePlace) → w x ≡ o → head_by size x o ≡ head → (q : DuePlace) × (w x ≡ Some q) × (size + q.due % 256 ≡ head)
         by None is at = absurd (ne at)
         by (Some q) is at = (q, is, at)
 
-    abbrev q : Place
+    abbrev q : DuePlace
     q = x_item.0
 
     pub item_there : (place_in places x ≡ Some q) × (t < q.due) × (x < size)
@@ -162,7 +162,7 @@ module _ (places : List (Option Place)) (next previous : List ℕ) (t now n head
     no_head = grind (arith, nat_tests)
 
     -- before the next place stands no more than before x, and x
-    between : (k : ℕ) (p : Place) → k ≢ x → place_in places k ≡ Some p → t < p.due → turn_of t p.due ≡ n
+    between : (k : ℕ) (p : DuePlace) → k ≢ x → place_in places k ≡ Some p → t < p.due → turn_of t p.due ≡ n
         → is_behind head y p (number y) ≡ is_behind head x p (number x)
     between k p other is late turn =
         let low = place_low places k p is in
@@ -212,7 +212,7 @@ module _ (places : List (Option Place)) (next previous : List ℕ) (t now n head
     pub not_found : on_table x es ≡ false
     not_found = l.which x q item_there.0 ∙ (ap (λ (z : Bool). nat_le q.due now && z) x_before ∙ and-false (nat_le q.due now))
 
-    other_which : (k : ℕ) (p : Place) → k ≢ x → place_in places k ≡ Some p
+    other_which : (k : ℕ) (p : DuePlace) → k ≢ x → place_in places k ≡ Some p
         → on_table k es ≡ (nat_le p.due now && is_passed t n (is_behind head y p (number y)) p)
     other_which k p other is =
         l.which k p is ∙ passed_alike (nat_le p.due now) (nat_le p.due t) (nat_lt (turn_of t p.due) n) (turn_of t p.due == n)
@@ -220,19 +220,19 @@ module _ (places : List (Option Place)) (next previous : List ℕ) (t now n head
         (λ later turn. sym (between k p other is (late_by p.due later) (turn_by p.due turn)))
 
     -- x is not due by then
-    pub finding_pass : (p : Place) → place_in places x ≡ Some p → now < p.due → Finding places t now n head es y
+    pub finding_pass : (p : DuePlace) → place_in places x ≡ Some p → now < p.due → Finding places t now n head es y
     finding_pass o here late = record {
       on = l.on;
       low = r.next_low x l.low;
       here = y_here;
       which = λ k p is. let passed : Bool = is_passed t n (is_behind head y p (number y)) p in
           at_or (λ z. place_in places z ≡ Some p → on_table z es ≡ (nat_le p.due now && passed)) x k
-          (λ at. let e = same_Some o p (sym here ∙ at) in let f = ap (λ (z : Place). z.due) e in
+          (λ at. let e = same_Some o p (sym here ∙ at) in let f = ap (λ (z : DuePlace). z.due) e in
           let later : nat_le p.due now ≡ false = grind (arith, nat_tests) in not_found ∙ sym (ap (λ (z : Bool). z && passed) later))
           (λ other at. other_which k p other at) is;
     }
 
-    pub finding_take : (es' : List Entry) (p : Place) → place_in places x ≡ Some p → p.due ≤ now
+    pub finding_take : (es' : List Entry) (p : DuePlace) → place_in places x ≡ Some p → p.due ≤ now
         → es' ≡ es ++ entry_at p x ∷ [] → Finding places t now n head es' y
     finding_take es' p at due es_is =
         let e : Entry = entry_at p x in record {
@@ -246,20 +246,20 @@ module _ (places : List (Option Place)) (next previous : List ℕ) (t now n head
               ap (λ (z : Bool). on_table k es || z) apart ∙ (or-false (on_table k es) ∙ other_which k o other there)) is);
         }
       where
-        own : (o : Place) → q ≡ o → p ≡ o
+        own : (o : DuePlace) → q ≡ o → p ≡ o
             → (on_table x es || (x == x)) ≡ (nat_le o.due now && is_passed t n (is_behind head y o (number y)) o)
         own o q_is p_is =
             let self : (x == x) ≡ true = grind (arith, nat_tests) in
-            let soon : nat_le o.due now ≡ true = let f = ap (λ (z : Place). z.due) p_is in grind (arith, nat_tests) in
+            let soon : nat_le o.due now ≡ true = let f = ap (λ (z : DuePlace). z.due) p_is in grind (arith, nat_tests) in
             ap (λ (z : Bool). z || (x == x)) not_found
             ∙ (self ∙ sym (ap (λ (z : Bool). z && is_passed t n (is_behind head y o (number y)) o) soon
-            ∙ subst (λ (z : Place). is_passed t n (is_behind head y z (number y)) z ≡ true) q_is x_after))
+            ∙ subst (λ (z : DuePlace). is_passed t n (is_behind head y z (number y)) z ≡ true) q_is x_after))
 
     less_steps : steps_left places head y < steps_left places head x
     less_steps = steps_fewer places head x y ne
         (λ far. let c = x_number in let d = ap number_by item_there.0 in let e = less (place_in places y) in let up = y_rises far in omega arith)
       where
-        less : (o : Option Place) → number_by (later_than t o) ≤ number_by o
+        less : (o : Option DuePlace) → number_by (later_than t o) ≤ number_by o
         less None = omega arith
         less (Some p) = less_number (nat_le p.due t) (Some p)
 

@@ -1,7 +1,7 @@
 -- What is found at first is what stands in the row, and at last what is due.
 use Rattle.wq_delay.proofs.Common.{◌≡◌, ℕ, ◌+◌, ◌-◌, ◌<◌, ◌≤◌, min, Bool, true, false, cond, ◌&&◌, ◌||◌, List, [], ◌∷◌, ◌++◌, map, take, drop, is_some, nat_lt}
 use Rattle.wq_delay.proofs.Common.{nat_le, Some, None, All, filter, Option, sym, refl, ap, ◌∙◌, subst, mod-lt, arith, mod-le, nat_tests, take-append-drop}
-use Rattle.wq_delay.proofs.Common.{All-filter, filter-append, Entry, due_part, on_table, Place, DueItem, place_in, turn_of, AreFound, entry_of, times}
+use Rattle.wq_delay.proofs.Common.{All-filter, filter-append, Entry, due_part, on_table, DuePlace, DueItem, place_in, turn_of, AreFound, entry_of, times}
 use Rattle.wq_delay.proofs.Common.{SaysPlace, entries_of, stands, is_due, AreDue, IsTimetable}
 use Rattle.wq_delay.proofs.Table.{place_some}
 use Rattle.wq_delay.proofs.Spelled.{entries_rows}
@@ -30,7 +30,7 @@ due_rows t (x ∷ xs) = by (nat_le x.place.due t) (due_rows t xs)
     by true rest = ap (λ (z : List Entry). entry_of x ∷ z) rest
     by false rest = rest
 
-some_twice : (t now : ℕ) (p : Place) (n : ℕ) → is_some (due_only now (due_only t (Some p))) ≡ (nat_le p.due now && (nat_le p.due t || nat_lt n 0))
+some_twice : (t now : ℕ) (p : DuePlace) (n : ℕ) → is_some (due_only now (due_only t (Some p))) ≡ (nat_le p.due now && (nat_le p.due t || nat_lt n 0))
 some_twice t now p n =
     let none : nat_lt n 0 ≡ false = grind (arith, nat_tests) in
     by (nat_le p.due t) ∙ sym (ap (λ (z : Bool). nat_le p.due now && (nat_le p.due t || z)) none)
@@ -43,7 +43,7 @@ some_twice t now p n =
     by true = last (nat_le p.due now)
     by false = sym (and-false (nat_le p.due now))
 
-module _ {places : List (Option Place)} {next previous : List ℕ} {row : List DueItem} {room front count tick : ℕ}
+module _ {places : List (Option DuePlace)} {next previous : List ℕ} {row : List DueItem} {room front count tick : ℕ}
     (t : IsTimetable places next previous row room front count tick) (now : ℕ) where
   abbrev es : List Entry
   es = entries_of places
@@ -83,15 +83,15 @@ module _ {places : List (Option Place)} {next previous : List ℕ} {row : List D
       }
 
 -- once the slots of all ticks up to now were gone through
-pub found_due : (places : List (Option Place)) (t now n : ℕ) (found : List Entry) → n ≡ min (now - t) 256 → AreFound places t now n found
+pub found_due : (places : List (Option DuePlace)) (t now n : ℕ) (found : List Entry) → n ≡ min (now - t) 256 → AreFound places t now n found
     → AreDue places now found
 found_due places t now n found n_is f = record { on = f.on; which = λ k. by k (place_in places k) refl }
   where
-    off : (b : Bool) (o : Option Place) → o ≡ None → is_some (cond b o None) ≡ b → b ≡ false
+    off : (b : Bool) (o : Option DuePlace) → o ≡ None → is_some (cond b o None) ≡ b → b ≡ false
     off true o none is = absurd (cc)
     off false o none is = refl
 
-    all : (p : Place) (a b : Bool) → nat_le p.due now ≡ a → nat_le p.due t ≡ b → (a && (b || nat_lt (turn_of t p.due) n)) ≡ a
+    all : (p : DuePlace) (a b : Bool) → nat_le p.due now ≡ a → nat_le p.due t ≡ b → (a && (b || nat_lt (turn_of t p.due) n)) ≡ a
     all p false b u v = refl
     all p true true u v = refl
     all p true false u v =
@@ -99,7 +99,7 @@ found_due places t now n found n_is f = record { on = f.on; which = λ k. by k (
         let less = mod-le (p.due - (t + 1)) 256 in let small = mod-lt (p.due - (t + 1)) {m = 256} (omega arith) in
         let low : turn_of t p.due < n = omega arith in grind (arith, nat_tests)
 
-    by : (k : ℕ) (o : Option Place) → place_in places k ≡ o → on_table k found ≡ is_due now o
+    by : (k : ℕ) (o : Option DuePlace) → place_in places k ≡ o → on_table k found ≡ is_due now o
     by k None is =
         off (on_table k found) (place_in places k) is (ap is_some (sym (place_valid places k found f.on.valid)) ∙ place_some k found)
     by k (Some p) is = f.which k p is ∙ all p (nat_le p.due now) (nat_le p.due t) refl refl

@@ -5,7 +5,7 @@ use Rattle.wq_delay.proofs.Common.{◌≡◌, ℕ, suc, ◌+◌, ◌<◌, ◌≤
 use Rattle.wq_delay.proofs.Common.{List, [], ◌∷◌, ◌++◌, map, get_or, nat_lt, nat_le, ◌==◌, Some, None, All}
 use Rattle.wq_delay.proofs.Common.{sum_by, Option, IsPermutation, is_lt, Less, Equal, Greater, sym, refl, ap, ◌∙◌, subst, arith}
 use Rattle.wq_delay.proofs.Common.{eqb-true, nat_tests, All-head, All-tail, sum_by-cons, AllByRecursion, Entry, due_part, IsOrdered, on_table, IsBefore}
-use Rattle.wq_delay.proofs.Common.{all-more, Place, DueItem, place_in, AreOnTable, entry_of, times, place_at}
+use Rattle.wq_delay.proofs.Common.{all-more, DuePlace, DueItem, place_in, AreOnTable, entry_of, times, place_at}
 use Rattle.wq_delay.proofs.Common.{SaysPlace, entries_of, is_due, place_of, AreApart, row_cmp, AreSorted}
 use Rattle.wq_delay.proofs.Spelled.{place_off, entries_rows, same_entries}
 
@@ -13,7 +13,7 @@ times_sum : (k : ℕ) (es : List Entry) → times k es ≡ sum_by (λ e. cond (k
 times_sum k [] = refl
 times_sum k (e ∷ es) = ap (λ (z : ℕ). cond (k == e.item) 1 0 + z) (times_sum k es) ∙ sym (sum_by-cons (λ e. cond (k == e.item) 1 0) e es)
 
-pub on_table_permuted : (places : List (Option Place)) (xs ys : List DueItem) → IsPermutation xs ys
+pub on_table_permuted : (places : List (Option DuePlace)) (xs ys : List DueItem) → IsPermutation xs ys
     → AreOnTable places (map entry_of xs) → AreOnTable places (map entry_of ys)
 on_table_permuted places xs ys moves on =
     let m = IsPermutation-map entry_of xs ys moves in record {
@@ -67,7 +67,7 @@ sorted_tail x xs sorted k d low up =
     let e : suc k + 1 ≡ suc (k + 1) = omega arith in
     subst (λ (z : ℕ). is_lt (row_cmp (get_or (x ∷ xs) z d) (get_or (x ∷ xs) (suc k) d)) ≡ false) e (sorted (suc k) d (omega arith) (omega arith))
 
-pub sorted_ordered : (places : List (Option Place)) (xs : List DueItem) → AreApart places
+pub sorted_ordered : (places : List (Option DuePlace)) (xs : List DueItem) → AreApart places
     → AreOnTable places (map entry_of xs) → AreSorted xs → IsOrdered (map entry_of xs)
 sorted_ordered places [] apart on sorted = tt
 sorted_ordered places (x ∷ []) apart on sorted = (tt, refl, tt)
@@ -101,7 +101,7 @@ sorted_ordered places (x ∷ y ∷ ys) apart on sorted =
     )
 
 -- what is due of a place
-abbrev pub due_only : ℕ → Option Place → Option Place
+abbrev pub due_only : ℕ → Option DuePlace → Option DuePlace
 due_only t None = None
 due_only t (Some p) = cond (nat_le p.due t) (Some p) None
 
@@ -143,7 +143,7 @@ place_due t k (f ∷ fs) ordered = by (nat_le f.due t) (k == f.item) refl refl (
         rw p (rest ∙ ap (due_only t) (place_off k fs (subst (λ (z : ℕ). on_table z fs ≡ false) (sym (eqb-true k f.item q)) ordered.1)))
     by false false p q rest = rest
 
-pub place_valid : (places : List (Option Place)) (k : ℕ) (es : List Entry) → All (SaysPlace places) es
+pub place_valid : (places : List (Option DuePlace)) (k : ℕ) (es : List Entry) → All (SaysPlace places) es
     → place_of k es ≡ cond (on_table k es) (place_in places k) None
 place_valid places k [] valid = refl
 place_valid places k (f ∷ fs) valid =
@@ -156,7 +156,7 @@ place_valid places k (f ∷ fs) valid =
     by false is rest = rest
 
 -- entries in order that are what is due
-pub ordered_is_due : (places : List (Option Place)) (now : ℕ) (es : List Entry) → AreApart places → All (SaysPlace places) es → IsOrdered es
+pub ordered_is_due : (places : List (Option DuePlace)) (now : ℕ) (es : List Entry) → AreApart places → All (SaysPlace places) es → IsOrdered es
     → ((k : ℕ) → on_table k es ≡ is_due now (place_in places k)) → es ≡ due_part now (entries_of places)
 ordered_is_due places now es apart valid ordered which =
     let rows = entries_rows places apart in
@@ -165,11 +165,11 @@ ordered_is_due places now es apart valid ordered which =
     ∙ (ap (λ (z : Bool). cond z (place_in places k) None) (which k)
     ∙ (as_due (place_in places k) ∙ (ap (due_only now) (rows.known k) ∙ sym (place_due now k (entries_of places) rows.ordered)))))
   where
-    as_due : (o : Option Place) → cond (is_due now o) o None ≡ due_only now o
+    as_due : (o : Option DuePlace) → cond (is_due now o) o None ≡ due_only now o
     as_due None = refl
     as_due (Some p) = refl
 
-pub sorted_is_due : (places : List (Option Place)) (now : ℕ) (xs : List DueItem) → AreApart places
+pub sorted_is_due : (places : List (Option DuePlace)) (now : ℕ) (xs : List DueItem) → AreApart places
     → AreOnTable places (map entry_of xs) → AreSorted xs
     → ((k : ℕ) → on_table k (map entry_of xs) ≡ is_due now (place_in places k))
     → map entry_of xs ≡ due_part now (entries_of places)

@@ -4,7 +4,7 @@ use Rattle.std.proofs.lemmas.List.Sorted.{IsPermutation-refl, IsPermutation-tran
 use Rattle.wq_delay.proofs.Common.{◌≡◌, ℕ, ◌+◌, ◌<◌, ◌≤◌, Bool, true, false, cond, not, ◌&&◌, ◌||◌, ◌≢◌, List, [], ◌∷◌, ◌++◌, map, length, ◌==◌, IsPermutation}
 use Rattle.wq_delay.proofs.Common.{sym, refl, ap, ◌∙◌, subst, append_assoc, arith, length-append, eqb-true, nat_tests, append-nil, filter-append, Event, Back}
 use Rattle.wq_delay.proofs.Common.{Holds, Entry, without, IsOrdered, on_table, IsLegal, first_on, without_off, on_table-without, Known, Sees, GivesAllBack}
-use Rattle.wq_delay.proofs.Sound.{state, IsSound, sound_leaves, stops_back}
+use Rattle.wq_delay.proofs.Sound.{state, FitsSize, sound_leaves, stops_back}
 use Rattle.wq_words.specs.declared.event.Why.TheVariants as why
 
 grows_on : (c : ℕ) (xs ys : List Event) (n m : ℕ) (u v w : List Event) → Grows c xs n u v → Grows c ys m v w → Grows c (xs ++ ys) (n + m) u w
@@ -48,9 +48,9 @@ pub record Given (size : ℕ) (a : Known) (old : List Entry) (b : Known) (new : 
   pub next : ℕ
   pub split : IsPermutation old (gone ++ new)
   pub seen : Sees (backs a.number gone) 0 a b
-  pub sound : IsSound size (state b 0 next new)
+  pub sound : FitsSize size (state b 0 next new)
 
-pub given_none : (size : ℕ) (a : Known) (now next : ℕ) (t : List Entry) → IsSound size (state a now next t) → Given size a t a t
+pub given_none : (size : ℕ) (a : Known) (now next : ℕ) (t : List Entry) → FitsSize size (state a now next t) → Given size a t a t
 given_none size a now next t sound = record {
   gone = [];
   next = next;

@@ -6,7 +6,7 @@ use Rattle.wq_delay.proofs.Common.{◌≡◌, ℕ, ◌+◌, ◌*◌, ◌<◌, �
 use Rattle.wq_delay.proofs.Common.{◌||◌, List, [], ◌∷◌, ◌++◌, map, length, take, is_some, nat_le, ◌==◌}
 use Rattle.wq_delay.proofs.Common.{Some, None, All, filter, Option, IsPermutation, sym, refl}
 use Rattle.wq_delay.proofs.Common.{ap, ◌∙◌, subst, arith, eqb-true, nat_tests, map-append, filter-append}
-use Rattle.wq_delay.proofs.Common.{All-head, All-tail, All-filter, All-nil, All-cons, All-map, All-weaker, Entry, due_part, IsOrdered, on_table, Place, DueItem}
+use Rattle.wq_delay.proofs.Common.{All-head, All-tail, All-filter, All-nil, All-cons, All-map, All-weaker, Entry, due_part, IsOrdered, on_table, DuePlace, DueItem}
 use Rattle.wq_delay.proofs.Common.{place_in, later_than, IsWheel, AreOnTable, entry_of, times, place_at, SaysPlace, entries_of, stands, is_due, IsTimetable}
 use Rattle.wq_delay.proofs.Common.{waiting, is_place, IsGathering, remaining, PutsBehind, AreSorted}
 use Rattle.wq_delay.proofs.Table.{place_some}
@@ -16,7 +16,7 @@ use Rattle.wq_delay.proofs.Looking.{times_off}
 use Rattle.wq_delay.proofs.Gathered.{on_table_permuted, same_on_table, due_only, ordered_due, place_due, ordered_is_due, sorted_ordered, no_times}
 use Rattle.wq_delay.proofs.Gathered.{times_first, no_more_times, times_append, ordered_joined}
 
-stands_place : (p : Place) (o : Option Place) → is_place p o ≡ true → o ≡ Some p
+stands_place : (p : DuePlace) (o : Option DuePlace) → is_place p o ≡ true → o ≡ Some p
 stands_place p None is = absurd (cc)
 stands_place p (Some q) is = by (q.due == p.due) (q.arming == p.arming) refl refl is
   where
@@ -25,12 +25,12 @@ stands_place p (Some q) is = by (q.due == p.due) (q.arming == p.arming) refl ref
     by true false u v both = absurd (cc)
     by false c u v both = absurd (cc)
 
-pub place_stands : (p : Place) (o : Option Place) → o ≡ Some p → is_place p o ≡ true
+pub place_stands : (p : DuePlace) (o : Option DuePlace) → o ≡ Some p → is_place p o ≡ true
 place_stands p o is =
     let a : (p.due == p.due) ≡ true = grind (arith, nat_tests) in let b : (p.arming == p.arming) ≡ true = grind (arith, nat_tests) in
     ap (is_place p) is ∙ rw (a, b) refl
 
-pub kept_valid : (places : List (Option Place)) (xs : List DueItem)
+pub kept_valid : (places : List (Option DuePlace)) (xs : List DueItem)
     → All (SaysPlace places) (map entry_of (filter (stands places) xs))
 kept_valid places [] = All-nil (SaysPlace places)
 kept_valid places (x ∷ xs) = by (stands places x) refl (kept_valid places xs)
@@ -66,7 +66,7 @@ ordered_single k (e ∷ es) ordered = by (k == e.item) refl (ordered_single k es
         let n = times_off k es (subst (λ (z : ℕ). on_table z es ≡ false) (sym (eqb-true k e.item is)) ordered.1) in omega arith
     by false is rest = omega arith
 
-some_due : (t : ℕ) (o : Option Place) → is_some (due_only t o) ≡ is_due t o
+some_due : (t : ℕ) (o : Option DuePlace) → is_some (due_only t o) ≡ is_due t o
 some_due t None = refl
 some_due t (Some p) = by (nat_le p.due t)
   where
@@ -74,12 +74,12 @@ some_due t (Some p) = by (nat_le p.due t)
     by true = refl
     by false = refl
 
-waits_later : (t : ℕ) (o : Option Place) → cond (is_due t o) None o ≡ later_than t o
+waits_later : (t : ℕ) (o : Option DuePlace) → cond (is_due t o) None o ≡ later_than t o
 waits_later t None = refl
 waits_later t (Some p) = refl
 
 -- what stands in a row of what is due at the tick now
-pub row_due : (places : List (Option Place)) (now k : ℕ) (fs : List Entry) → All (SaysPlace places) fs → All (λ e. e.due ≤ now) fs
+pub row_due : (places : List (Option DuePlace)) (now k : ℕ) (fs : List Entry) → All (SaysPlace places) fs → All (λ e. e.due ≤ now) fs
     → on_table k fs ≡ true → is_due now (place_in places k) ≡ true
 row_due places now k [] valid due on = absurd (cc)
 row_due places now k (f ∷ fs) valid due on = by (k == f.item) refl on (λ rest. row_due places now k fs
@@ -93,9 +93,9 @@ row_due places now k (f ∷ fs) valid due on = by (k == f.item) refl on (λ rest
         ap (λ (z : ℕ). is_due now (place_in places z)) (eqb-true k f.item is) ∙ (ap (is_due now) at ∙ (grind (arith, nat_tests)))
     by false is on rest = rest on
 
-module _ {places : List (Option Place)} {next previous : List ℕ} {row : List DueItem} {room front count tick : ℕ}
+module _ {places : List (Option DuePlace)} {next previous : List ℕ} {row : List DueItem} {room front count tick : ℕ}
     (t : IsTimetable places next previous row room front count tick) (now : ℕ) (forward : tick ≤ now)
-    {given : List (Option Place)} (value : given ≡ places) (kept : List DueItem) (same : filter (stands given) kept ≡ filter (stands given) row) where
+    {given : List (Option DuePlace)} (value : given ≡ places) (kept : List DueItem) (same : filter (stands given) kept ≡ filter (stands given) row) where
   abbrev es : List Entry
   es = entries_of places
 
@@ -103,10 +103,10 @@ module _ {places : List (Option Place)} {next previous : List ℕ} {row : List D
   late = remaining places kept
 
   late_is : late ≡ remaining given kept
-  late_is = ap (λ (z : List (Option Place)). remaining z kept) (sym value)
+  late_is = ap (λ (z : List (Option DuePlace)). remaining z kept) (sym value)
 
   start_is : late ≡ due_part tick es
-  start_is = late_is ∙ (ap (map entry_of) same ∙ (ap (λ (z : List (Option Place)). remaining z row) value ∙ t.due_is))
+  start_is = late_is ∙ (ap (map entry_of) same ∙ (ap (λ (z : List (Option DuePlace)). remaining z row) value ∙ t.due_is))
 
   start_early : All (λ e. e.due ≤ tick) late
   start_early = subst (All (λ e. e.due ≤ tick)) (sym (start_is ∙ sym t.due_is))
@@ -120,24 +120,24 @@ module _ {places : List (Option Place)} {next previous : List ℕ} {row : List D
   start_on k =
       let rows = entries_rows places t.apart in
       ap (on_table k) start_is ∙ (sym (place_some k (due_part tick es)) ∙ (ap is_some (place_due tick k es rows.ordered)
-      ∙ (ap (λ (z : Option Place). is_some (due_only tick z)) (sym (rows.known k)) ∙ some_due tick (place_in places k))))
+      ∙ (ap (λ (z : Option DuePlace). is_some (due_only tick z)) (sym (rows.known k)) ∙ some_due tick (place_in places k))))
 
   start_waits : (k : ℕ) → waiting places late k ≡ later_than tick (place_in places k)
   start_waits k = ap (λ (z : Bool). cond z None (place_in places k)) (start_on k) ∙ waits_later tick (place_in places k)
 
   pub gathering_start : IsGathering given next previous (remaining given kept) now
-  gathering_start = subst (λ (z : List (Option Place)). IsGathering z next previous (remaining z kept) now) (sym value) record {
-    wheel = subst (λ (z : ℕ → Option Place). IsWheel (length places) next previous z) (λ i k. sym (start_waits k) i) t.wheel;
+  gathering_start = subst (λ (z : List (Option DuePlace)). IsGathering z next previous (remaining z kept) now) (sym value) record {
+    wheel = subst (λ (z : ℕ → Option DuePlace). IsWheel (length places) next previous z) (λ i k. sym (start_waits k) i) t.wheel;
     valid = kept_valid places kept;
     due = All-weaker (λ e. e.due ≤ tick) (λ e. e.due ≤ now) (λ e early. omega arith) late start_early;
     single = λ k. ordered_single k late start_ordered;
   }
 
-  ahead : (k : ℕ) (p : Place) → waiting places late k ≡ Some p → tick < p.due
+  ahead : (k : ℕ) (p : DuePlace) → waiting places late k ≡ Some p → tick < p.due
   ahead k p is = (later_same tick (place_in places k) p (sym (start_waits k) ∙ is)).1
 
-  pub start_ahead : (k : ℕ) (p : Place) → waiting given (remaining given kept) k ≡ Some p → tick < p.due
-  start_ahead = subst (λ (z : List (Option Place)). (k : ℕ) (p : Place) → waiting z (remaining z kept) k ≡ Some p → tick < p.due) (sym value) ahead
+  pub start_ahead : (k : ℕ) (p : DuePlace) → waiting given (remaining given kept) k ≡ Some p → tick < p.due
+  start_ahead = subst (λ (z : List (Option DuePlace)). (k : ℕ) (p : DuePlace) → waiting z (remaining z kept) k ≡ Some p → tick < p.due) (sym value) ahead
 
   -- what stands on the table, and not among what is late, is due later
   all_later : (ms : List DueItem) → All (SaysPlace places) (map entry_of ms) → ((k : ℕ) → times k (late ++ map entry_of ms) ≤ 1)
@@ -155,7 +155,7 @@ module _ {places : List (Option Place)} {next previous : List ℕ} {row : List D
   -- the row once nothing that is due waits, where what was found is sorted
   module _ {next' previous' : List ℕ} {found sorted moved : List DueItem} (grows : PutsBehind given kept found)
       (gathered : IsGathering given next' previous' (remaining given found) now)
-      (none_due : (k : ℕ) (p : Place) → waiting given (remaining given found) k ≡ Some p → now < p.due)
+      (none_due : (k : ℕ) (p : DuePlace) → waiting given (remaining given found) k ≡ Some p → now < p.due)
       (sorted_is : sorted ≡ kept ++ moved) (moves : IsPermutation grows.more moved) (is_sorted : AreSorted moved) where
     abbrev more : List DueItem
     more = grows.more
@@ -163,17 +163,17 @@ module _ {places : List (Option Place)} {next previous : List ℕ} {row : List D
     found_is : remaining places found ≡ map entry_of (filter (stands places) kept ++ more)
     found_is = ap (map entry_of) (ap (filter (stands places)) grows.is ∙ (filter-append (stands places) kept more
         ∙ ap (λ (z : List DueItem). filter (stands places) kept ++ z) (filter_all (stands places) more
-        (subst (λ (z : List (Option Place)). All (λ e. stands z e ≡ true) more) value grows.stand))))
+        (subst (λ (z : List (Option DuePlace)). All (λ e. stands z e ≡ true) more) value grows.stand))))
 
     g : IsGathering places next' previous' (map entry_of (filter (stands places) kept ++ more)) now
     g = subst (λ (z : List Entry). IsGathering places next' previous' z now) found_is
-        (subst (λ (z : List (Option Place)). IsGathering z next' previous' (remaining z found) now) value gathered)
+        (subst (λ (z : List (Option DuePlace)). IsGathering z next' previous' (remaining z found) now) value gathered)
 
-    done : (k : ℕ) (p : Place) → waiting places (map entry_of (filter (stands places) kept ++ more)) k ≡ Some p → now < p.due
-    done = subst (λ (z : List Entry). (k : ℕ) (p : Place) → waiting places z k ≡ Some p → now < p.due) found_is
-        (subst (λ (z : List (Option Place)). (k : ℕ) (p : Place) → waiting z (remaining z found) k ≡ Some p → now < p.due) value none_due)
+    done : (k : ℕ) (p : DuePlace) → waiting places (map entry_of (filter (stands places) kept ++ more)) k ≡ Some p → now < p.due
+    done = subst (λ (z : List Entry). (k : ℕ) (p : DuePlace) → waiting places z k ≡ Some p → now < p.due) found_is
+        (subst (λ (z : List (Option DuePlace)). (k : ℕ) (p : DuePlace) → waiting z (remaining z found) k ≡ Some p → now < p.due) value none_due)
 
-    late_item : (o : Option Place) → ((p : Place) → o ≡ Some p → now < p.due) → is_due now o ≡ false
+    late_item : (o : Option DuePlace) → ((p : DuePlace) → o ≡ Some p → now < p.due) → is_due now o ≡ false
     late_item None late = refl
     late_item (Some p) late = let l = late p refl in grind (arith, nat_tests)
 
@@ -220,7 +220,7 @@ module _ {places : List (Option Place)} {next previous : List ℕ} {row : List D
     timetable_end {room'} {front'} enough passed low early = record {
       few = t.few;
       apart = t.apart;
-      wheel = subst (λ (z : ℕ → Option Place). IsWheel (length places) next' previous' z)
+      wheel = subst (λ (z : ℕ → Option DuePlace). IsWheel (length places) next' previous' z)
           (λ i k. (ap (λ (z : Bool). cond z None (place_in places k)) (found_on k) ∙ waits_later now (place_in places k)) i) g.wheel;
       due_is = sorted_ends ∙ ordered_is_due places now (late ++ map entry_of moved) t.apart
           (subst (All (SaysPlace places)) (split moved) sorted_on.valid) in_order
@@ -231,7 +231,7 @@ module _ {places : List (Option Place)} {next previous : List ℕ} {row : List D
           (all_unmap (λ e. e.due ≤ now) more (all_back (λ e. e.due ≤ now) late (map entry_of more) (subst (All (λ e. e.due ≤ now)) (split more) g.due)))));
       passed = ap (λ (z : List DueItem). filter (stands places) (take front' z)) sorted_is
           ∙ (ap (filter (stands places)) (take-append-le front' kept moved low)
-          ∙ subst (λ (z : List (Option Place)). filter (stands z) (take front' kept) ≡ []) value passed);
-      enough = subst (λ (z : List (Option Place)). 3 * length z ≤ room') value enough;
+          ∙ subst (λ (z : List (Option DuePlace)). filter (stands z) (take front' kept) ≡ []) value passed);
+      enough = subst (λ (z : List (Option DuePlace)). 3 * length z ≤ room') value enough;
       count_is = t.count_is;
     }

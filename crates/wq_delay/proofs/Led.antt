@@ -1,15 +1,15 @@
 -- The row of a timetable that was led on, by what a sort of its end promises.
 use Rattle.std.proofs.lemmas.List.{take-append-le, drop-append-le, take_all, drop_all}
 use Rattle.wq_delay.proofs.Common.{◌≡◌, ℕ, ◌*◌, ◌<◌, ◌≤◌, List, [], ◌++◌, length, take, drop, filter, Some, All, Option, IsPermutation, sym, ap, ◌∙◌, subst}
-use Rattle.wq_delay.proofs.Common.{arith, Place, DueItem, waiting, stands, remaining, IsTimetable, IsGathering, PutsBehind, AreSorted, take-append-drop}
+use Rattle.wq_delay.proofs.Common.{arith, DuePlace, DueItem, waiting, stands, remaining, IsTimetable, IsGathering, PutsBehind, AreSorted, take-append-drop}
 use Rattle.wq_delay.proofs.Leading.{timetable_end}
 
-module _ {places : List (Option Place)} {next previous : List ℕ} {row : List DueItem} {room front count tick : ℕ}
+module _ {places : List (Option DuePlace)} {next previous : List ℕ} {row : List DueItem} {room front count tick : ℕ}
     (t : IsTimetable places next previous row room front count tick) (now : ℕ) (forward : tick ≤ now)
-    {given : List (Option Place)} (value : given ≡ places) (kept : List DueItem) (same : filter (stands given) kept ≡ filter (stands given) row) where
+    {given : List (Option DuePlace)} (value : given ≡ places) (kept : List DueItem) (same : filter (stands given) kept ≡ filter (stands given) row) where
   pub timetable_led : {next' previous' : List ℕ} {found sorted : List DueItem} (grows : PutsBehind given kept found)
       → IsGathering given next' previous' (remaining given found) now
-      → ((k : ℕ) (p : Place) → waiting given (remaining given found) k ≡ Some p → now < p.due)
+      → ((k : ℕ) (p : DuePlace) → waiting given (remaining given found) k ≡ Some p → now < p.due)
       → {late : ℕ} → late ≡ length kept → take late sorted ≡ take late found → IsPermutation (drop late found) (drop late sorted)
       → AreSorted (drop late sorted) → {room' front' : ℕ} → 3 * length given ≤ room' → filter (stands given) (take front' kept) ≡ []
       → front' ≤ length kept → All (λ e. e.place.due ≤ tick) kept → IsTimetable places next' previous' sorted room' front' count now

@@ -1,13 +1,13 @@
 -- A slot is looked at place by place, and what is due is moved to the row.
 use Rattle.wq_delay.proofs.Common.{◌≡◌, ℕ, zero, suc, ◌+◌, ◌-◌, ◌%◌, ◌<◌, ◌≤◌, Bool, true, false, cond, ◌||◌, ◌≢◌, List, [], ◌∷◌, ◌++◌, length, get_or, set}
 use Rattle.wq_delay.proofs.Common.{nat_lt, ◌==◌, slice_index, Some, None, All, Option, sym, refl, ap, ◌∙◌, subst, arith, nat_tests, get_or_read, All-push}
-use Rattle.wq_delay.proofs.Common.{Entry, on_table, first_false, second_false, Place, place_in, head_by, number_by, entry_at, times, SaysPlace, waiting}
+use Rattle.wq_delay.proofs.Common.{Entry, on_table, first_false, second_false, DuePlace, place_in, head_by, number_by, entry_at, times, SaysPlace, waiting}
 use Rattle.wq_delay.proofs.Common.{AreOnTable, IsGathering, StillWaits, IsClean, AreRings, same_Some}
 use Rattle.wq_delay.proofs.Rounds.{at_or}
 use Rattle.wq_delay.proofs.Wheel.{wheel_without, item_low}
 use mathlib.Core.Bool.{or-false}
 
-pub less_number : (b : Bool) (o : Option Place) → number_by (cond b None o) ≤ number_by o
+pub less_number : (b : Bool) (o : Option DuePlace) → number_by (cond b None o) ≤ number_by o
 less_number true o = omega arith
 less_number false o = omega arith
 
@@ -36,7 +36,7 @@ times_off k (f ∷ fs) off =
     let rest = times_off k fs (second_false (k == f.item) (on_table k fs) off) in rw is (omega arith)
 
 -- an item of the table that does not stand in the row, put behind it
-pub more_on_table : (places : List (Option Place)) (es : List Entry) (k : ℕ) (p : Place) → AreOnTable places es → on_table k es ≡ false
+pub more_on_table : (places : List (Option DuePlace)) (es : List Entry) (k : ℕ) (p : DuePlace) → AreOnTable places es → on_table k es ≡ false
     → place_in places k ≡ Some p → AreOnTable places (es ++ entry_at p k ∷ [])
 more_on_table places es k p on off is = record {
   valid = All-push (SaysPlace places) es (entry_at p k) on.valid is;
@@ -54,7 +54,7 @@ more_on_table places es k p on off is = record {
     same false off is few = omega arith
 
 -- what waits stands on the table, and not in the row
-pub waits_there : (places : List (Option Place)) (row : List Entry) (k : ℕ) (p : Place) → waiting places row k ≡ Some p
+pub waits_there : (places : List (Option DuePlace)) (row : List Entry) (k : ℕ) (p : DuePlace) → waiting places row k ≡ Some p
     → (on_table k row ≡ false) × (place_in places k ≡ Some p)
 waits_there places row k p is = by (on_table k row) refl is
   where
@@ -62,25 +62,25 @@ waits_there places row k p is = by (on_table k row) refl is
     by true on same = absurd (cc)
     by false off same = (off, same)
 
-waits_not : (places : List (Option Place)) (row : List Entry) (k : ℕ) → on_table k row ≡ true → waiting places row k ≡ None
+waits_not : (places : List (Option DuePlace)) (row : List Entry) (k : ℕ) → on_table k row ≡ true → waiting places row k ≡ None
 waits_not places row k on = rw on refl
 
 -- a number above those of all places
-pub most : List (Option Place) → ℕ
+pub most : List (Option DuePlace) → ℕ
 most [] = 0
 most (o ∷ os) = number_by o + most os
 
-pub number_most : (places : List (Option Place)) (k : ℕ) → number_by (place_in places k) ≤ most places
+pub number_most : (places : List (Option DuePlace)) (k : ℕ) → number_by (place_in places k) ≤ most places
 unfolding most
 number_most [] k = omega arith
 number_most (o ∷ os) zero = omega arith
 number_most (o ∷ os) (suc k) = let is = number_most os k in omega arith
 
 -- how far the head of the slot is
-pub steps_left : List (Option Place) → ℕ → ℕ → ℕ
+pub steps_left : List (Option DuePlace) → ℕ → ℕ → ℕ
 steps_left places head x = cond (x == head) 0 (most places + 1 - number_by (place_in places x))
 
-pub steps_fewer : (places : List (Option Place)) (head x y : ℕ) → x ≢ head
+pub steps_fewer : (places : List (Option DuePlace)) (head x y : ℕ) → x ≢ head
     → (y ≢ head → number_by (place_in places x) < number_by (place_in places y)) → steps_left places head y < steps_left places head x
 unfolding steps_left
 steps_fewer places head x y ne up =
@@ -92,23 +92,23 @@ steps_fewer places head x y ne up =
         let far : y ≢ head = grind (arith, nat_tests) in let o = up far in let a = number_most places x in let b = number_most places y in omega arith
 
 -- at the place x of the slot with this head, nothing that is due waits before it
-pub record Looking (places : List (Option Place)) (next previous : List ℕ) (start row : List Entry) (head now x : ℕ) : Type 0 where
+pub record Looking (places : List (Option DuePlace)) (next previous : List ℕ) (start row : List Entry) (head now x : ℕ) : Type 0 where
   pub gathering : IsGathering places next previous row now
   pub fewer : StillWaits places start row
   pub low : x < length places + 256
   pub here : head_by (length places) x (waiting places row x) ≡ head
-  pub done : (k : ℕ) (p : Place) → waiting places row k ≡ Some p → length places + p.due % 256 ≡ head
+  pub done : (k : ℕ) (p : DuePlace) → waiting places row k ≡ Some p → length places + p.due % 256 ≡ head
       → (x ≢ head → p.arming + 1 < number_by (waiting places row x)) → now < p.due
 
-module _ (places : List (Option Place)) (next previous : List ℕ) (start row : List Entry) (head now : ℕ)
+module _ (places : List (Option DuePlace)) (next previous : List ℕ) (start row : List Entry) (head now : ℕ)
     (high : length places ≤ head) (low : head < length places + 256) where
   abbrev size : ℕ
   size = length places
 
-  slot_item : (k : ℕ) (p : Place) → waiting places row k ≡ Some p → head_by size k (waiting places row k) ≡ size + p.due % 256
+  slot_item : (k : ℕ) (p : DuePlace) → waiting places row k ≡ Some p → head_by size k (waiting places row k) ≡ size + p.due % 256
   slot_item k p is = ap (head_by size k) is
 
-  number_item : (k : ℕ) (p : Place) → waiting places row k ≡ Some p → number_by (waiting places row k) ≡ p.arming + 1
+  number_item : (k : ℕ) (p : DuePlace) → waiting places row k ≡ Some p → number_by (waiting places row k) ≡ p.arming + 1
   number_item k p is = ap number_by is
 
   starts : IsGathering places next previous row now → Looking places next previous row row head now (slice_index next head)
@@ -137,11 +137,11 @@ module _ (places : List (Option Place)) (next previous : List ℕ) (start row : 
 
   -- a place that is not the head is an item that waits in the slot
   pub looking_item : (x : ℕ) → Looking places next previous start row head now x → x ≢ head
-      → (p : Place) × (waiting places row x ≡ Some p) × (size + p.due % 256 ≡ head)
+      → (p : DuePlace) × (waiting places row x ≡ Some p) × (size + p.due % 256 ≡ head)
   looking_item x l ne = by (waiting places row x) refl l.here
     where
-      by : (o : Option Place) → waiting places row x ≡ o → head_by size x o ≡ head
-          → (p : Place) × (waiting places row x ≡ Some p) × (size + p.due % 256 ≡ head)
+      by : (o : Option DuePlace) → waiting places row x ≡ o → head_by size x o ≡ head
+          → (p : DuePlace) × (waiting places row x ≡ Some p) × (size + p.due % 256 ≡ head)
       by None is at = absurd (ne at)
       by (Some p) is at = (p, is, at)
 
@@ -152,7 +152,7 @@ module _ (places : List (Option Place)) (next previous : List ℕ) (start row : 
     r : AreRings (slice_index next) (slice_index previous) (λ k. head_by size k (waiting places row k)) (λ k. number_by (waiting places row k)) (size + 256)
     r = l.gathering.wheel.rings
 
-    abbrev q : Place
+    abbrev q : DuePlace
     q = (looking_item x l ne).0
 
     q_is : waiting places row x ≡ Some q
@@ -169,7 +169,7 @@ module _ (places : List (Option Place)) (next previous : List ℕ) (start row : 
         let f = y_rises (λ s. ne (sym is ∙ s)) in omega arith
 
     -- before the next place stands no more than before x, and x
-    nothing_between : (k : ℕ) (p : Place) → k ≢ x → waiting places row k ≡ Some p → size + p.due % 256 ≡ head
+    nothing_between : (k : ℕ) (p : DuePlace) → k ≢ x → waiting places row k ≡ Some p → size + p.due % 256 ≡ head
         → (y ≢ head → p.arming + 1 < number_by (waiting places row y)) → now < p.due
     nothing_between k p other is slot below =
         let k_low : k < size + 256 = let e = item_low l.gathering.wheel k p is in omega arith in
@@ -198,18 +198,18 @@ module _ (places : List (Option Place)) (next previous : List ℕ) (start row : 
     next_read : (z : ℕ) → z ≡ get_or next x z → z ≡ y
     next_read z read = get_or_read next x z (omega (arith, l.low, l.gathering.wheel.next_length)) read 0
 
-    passes : (p : Place) → place_in places x ≡ Some p → now < p.due → Looking places next previous start row head now y
+    passes : (p : DuePlace) → place_in places x ≡ Some p → now < p.due → Looking places next previous start row head now y
     passes p at late = record {
       gathering = l.gathering;
       fewer = l.fewer;
       low = r.next_low x l.low;
       here = y_here;
       done = λ k o is slot below. at_or (λ z. waiting places row z ≡ Some o → now < o.due) x k
-          (λ w. let e = same_Some p o (sym at ∙ (waits_there places row x o w).1) in let f = ap (λ (z : Place). z.due) e in omega arith)
+          (λ w. let e = same_Some p o (sym at ∙ (waits_there places row x o w).1) in let f = ap (λ (z : DuePlace). z.due) e in omega arith)
           (λ other w. nothing_between k o other w slot below) is;
     }
 
-    pub looking_pass : {p : Place} → place_in places x ≡ Some p → now < p.due → (z : ℕ) → z ≡ get_or next x z
+    pub looking_pass : {p : DuePlace} → place_in places x ≡ Some p → now < p.due → (z : ℕ) → z ≡ get_or next x z
         → Looking places next previous start row head now z
     looking_pass {p} at late z read =
         subst (λ (v : ℕ). Looking places next previous start row head now v) (sym (next_read z read)) (passes p at late)
@@ -232,7 +232,7 @@ module _ (places : List (Option Place)) (next previous : List ℕ) (start row : 
         (sym (next_read z read)) nearer
 
     -- x is due, and is moved to the row
-    module _ {p : Place} (at : place_in places x ≡ Some p) (due : p.due ≤ now) {next' previous' : List ℕ} {row' : List Entry}
+    module _ {p : DuePlace} (at : place_in places x ≡ Some p) (due : p.due ≤ now) {next' previous' : List ℕ} {row' : List Entry}
         (row_is : row' ≡ row ++ entry_at p x ∷ [])
         (next_is : next' ≡ set (set next (slice_index previous x) (slice_index next x)) x x)
         (previous_is : previous' ≡ set (set previous (slice_index next x) (slice_index previous x)) x x) where
@@ -250,7 +250,7 @@ module _ (places : List (Option Place)) (next previous : List ℕ) (start row : 
           let no : (j == x) ≡ false = grind (arith, nat_tests) in
           ap (λ (z : Bool). cond z None (place_in places j)) (on_row j ∙ (ap (λ (z : Bool). on_table j row || z) no ∙ or-false (on_table j row)))
 
-      still : (k : ℕ) (o : Place) → waiting places row' k ≡ Some o → (k ≢ x) × (waiting places row k ≡ Some o)
+      still : (k : ℕ) (o : DuePlace) → waiting places row' k ≡ Some o → (k ≢ x) × (waiting places row k ≡ Some o)
       still k o is = at_or (λ z. waiting places row' z ≡ Some o → (z ≢ x) × (waiting places row z ≡ Some o)) x k
           (λ w. absurd (let n = w_x in cc))
           (λ other w. (other, sym (w_other k other) ∙ w)) is

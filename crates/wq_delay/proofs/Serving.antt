@@ -1,11 +1,11 @@
 -- What stands first, and how much stands on a table.
 use Rattle.wq_delay.proofs.Common.{◌≡◌, ℕ, zero, suc, ◌<◌, ◌≤◌, Bool, true, false, cond, List, [], ◌∷◌, ◌++◌, map, length, get_or, take, filter, Option, sym}
-use Rattle.wq_delay.proofs.Common.{refl, ap, ◌∙◌, subst, arith, All-get_or, Entry, due_part, later_part, on_table, due_then_later, first_on, Place, DueItem}
+use Rattle.wq_delay.proofs.Common.{refl, ap, ◌∙◌, subst, arith, All-get_or, Entry, due_part, later_part, on_table, due_then_later, first_on, DuePlace, DueItem}
 use Rattle.wq_delay.proofs.Common.{IsFirstDue, entry_of, entries_of, stands, IsTimetable, AreApart}
 use Rattle.wq_delay.proofs.Rows.{in_places, length-le-places}
 use Rattle.wq_delay.proofs.Spelled.{entries_rows}
 
-pub few_entries : (places : List (Option Place)) → AreApart places → length (entries_of places) ≤ length places
+pub few_entries : (places : List (Option DuePlace)) → AreApart places → length (entries_of places) ≤ length places
 few_entries places apart = length-le-places places (entries_of places) (entries_rows places apart)
 
 -- where nothing before it passes a test, what passes comes first
@@ -22,12 +22,12 @@ first_kept {X} p (x ∷ xs) (suc i) d low none hit = by (p x) none (λ rest. fir
     by false is rest = rest is
 
 -- what is due first has a place
-pub first_low : (places : List (Option Place)) (t k : ℕ) → AreApart places → IsFirstDue t k (entries_of places) → k < length places
+pub first_low : (places : List (Option DuePlace)) (t k : ℕ) → AreApart places → IsFirstDue t k (entries_of places) → k < length places
 first_low places t k apart first =
     in_places places (entries_of places) k (entries_rows places apart)
     (subst (λ (z : ℕ). on_table z (entries_of places) ≡ true) first.item_is (first_on (entries_of places) first.rest first.first first.is))
 
-module _ {places : List (Option Place)} {next previous : List ℕ} {row : List DueItem} {room front count tick : ℕ}
+module _ {places : List (Option DuePlace)} {next previous : List ℕ} {row : List DueItem} {room front count tick : ℕ}
     (t : IsTimetable places next previous row room front count tick) where
   pub first_served : (n : ℕ) (e : DueItem) → n < length row → filter (stands places) (take n row) ≡ [] → e ≡ get_or row n e → stands places e ≡ true
       → IsFirstDue tick e.item (entries_of places)

@@ -15,8 +15,8 @@ abbrev pub state : Known → ℕ → ℕ → List Entry → DelayState
 state p now next t = record { sender = p; table = record { entries = t; tick = now; next = next }; looked = 0 }
 
 -- a table of so many places over the layout's items
-abbrev pub IsSound : ℕ → DelayState → Type 0
-IsSound size d = (size ≡ d.sender.layout.items) × IsFit d
+abbrev pub FitsSize : ℕ → DelayState → Type 0
+FitsSize size d = (size ≡ d.sender.layout.items) × IsFit d
 
 -- what is fit is so at every tick
 pub fit_at : (a : Known) (es : List Entry) (now later next : ℕ) → FitsTable a (record { entries = es; tick = now; next = next })
@@ -28,7 +28,7 @@ items_same xs n size a b sees is = is ∙ ap (λ (z : Layout). z.items) (sym see
 
 pub sound_keeps : (xs : List Event) (n size : ℕ) (a b : Known) (now next later : ℕ) (t : List Entry) → Sees xs n a b
     → ((k : ℕ) → starts a.number k xs ≡ stops a.number k xs)
-    → IsSound size (state a now next t) → IsSound size (state b later next t)
+    → FitsSize size (state a now next t) → FitsSize size (state b later next t)
 sound_keeps xs n size a b now next later t sees even sound = (
   items_same xs n size a b sees sound.0,
   record {
@@ -48,7 +48,7 @@ pub even_back : (s i k : ℕ) (w : Why) → starts s k (Hold s i ∷ Back s i w 
 even_back s i k w = omega arith
 
 pub sound_queued : (size k tries : ℕ) (r : Answer) (a b : Known) (now next : ℕ) (t : List Entry) → Answers k tries r a b
-    → IsSound size (state a now next t) → IsSound size (state b now next t)
+    → FitsSize size (state a now next t) → FitsSize size (state b now next t)
 sound_queued size k tries (answer.Queued is_first wakes) a b now next t told sound =
     sound_keeps _ _ size a b now next now t told.0 (even_pushed a.number k) sound
 sound_queued size k tries answer.Pending a b now next t told sound = sound_keeps _ _ size a b now next now t told (λ j. refl) sound
@@ -69,7 +69,7 @@ off_before n a b k t sees held = by (on_table k t) refl
 
 pub sound_puts : (size n k : ℕ) (a b : Known) (now next due : ℕ) (t u : List Entry) → Sees (Hold a.number k ∷ []) n a b
     → u ≡ placed (record { due = due; arming = next; item = k }) t
-    → IsSound size (state a now next t) → IsSound size (state b now (next + 1) u)
+    → FitsSize size (state a now next t) → FitsSize size (state b now (next + 1) u)
 sound_puts size n k a b now next due t u sees is sound =
     let e : Entry = record { due = due; arming = next; item = k } in
     let off = off_before n a b k t sees sound.1.held in (
@@ -86,7 +86,7 @@ sound_puts size n k a b now next due t u sees is sound =
 
 pub sound_leaves : (x : Event) (size n k : ℕ) (a b : Known) (now next : ℕ) (t u : List Entry) → Sees (x ∷ []) n a b
     → ((j : ℕ) → starts a.number j (x ∷ []) ≡ 0) → ((j : ℕ) → stops a.number j (x ∷ []) ≡ cond (k == j) 1 0)
-    → u ≡ without k t → IsSound size (state a now next t) → IsSound size (state b now next u)
+    → u ≡ without k t → FitsSize size (state a now next t) → FitsSize size (state b now next u)
 sound_leaves x size n k a b now next t u sees none one is sound = (
   items_same _ n size a b sees sound.0,
   subst (λ (z : List Entry). IsFit (state b now next z)) (sym is) (record {
@@ -106,7 +106,7 @@ stops_back s k j w = grind (arith, nat_tests)
 
 -- nothing is on the table, and nothing is held
 pub sound_empty : (size now : ℕ) (a : Known) (t : List Entry) → t ≡ [] → size ≡ a.layout.items → IsLegal a.layout a.seen
-    → ((k : ℕ) → ¬ Holds a.seen a.number k) → IsSound size (state a now 0 t)
+    → ((k : ℕ) → ¬ Holds a.seen a.number k) → FitsSize size (state a now 0 t)
 sound_empty size now a t none is legal free = (
   is,
   subst (λ (z : List Entry). IsFit (state a now 0 z)) (sym none) (record {
@@ -121,7 +121,7 @@ sound_empty size now a t none is legal free = (
 pub sound_posted : (size k tries : ℕ) (r : Posted) (a b : Known) (now next : ℕ) (t u : List Entry) → (r ≡ posted.Contended → ⊥)
     → (r ≡ posted.Draining → ⊥)
     → Posts k tries r a b → u ≡ without k t
-    → IsSound size (state a now next t) → IsSound size (state b now next u)
+    → FitsSize size (state a now next t) → FitsSize size (state b now next u)
 sound_posted size k tries (posted.Queued is_first wakes) a b now next t u won stays_open told is sound =
     sound_leaves (Push a.number k) size 0 k a b now next t u told.0 (λ j. refl) (λ j. stops_push a.number k j) is sound
 sound_posted size k tries posted.Closed a b now next t u won stays_open told is sound =
@@ -137,7 +137,7 @@ on_moved j k false q b same is on = rw same is
 
 pub sound_moves : (size k now next due : ℕ) (a : Known) (t u : List Entry) → on_table k t ≡ true
     → u ≡ placed (record { due = due; arming = next; item = k }) (without k t)
-    → IsSound size (state a now next t) → IsSound size (state a now (next + 1) u)
+    → FitsSize size (state a now next t) → FitsSize size (state a now (next + 1) u)
 sound_moves size k now next due a t u on is sound =
     let e : Entry = record { due = due; arming = next; item = k } in
     let off : on_table k (without k t) ≡ false = let same : (k == k) ≡ true = grind (arith, nat_tests) in on_table-without k k t

@@ -1,7 +1,7 @@
 -- The table that a list of places spells.
 use Rattle.wq_delay.proofs.Common.{◌≡◌, ℕ, zero, suc, ◌+◌, ◌-◌, ◌<◌, Bool, true, false, cond, ◌≢◌, List, [], ◌∷◌, is_some, nat_lt, ◌==◌, Some, None, Option}
 use Rattle.wq_delay.proofs.Common.{sym, refl, ap, ◌∙◌, subst, arith, eqb-true, nat_tests, AllByRecursion, Entry, IsOrdered, on_table, IsBefore, all-more}
-use Rattle.wq_delay.proofs.Common.{first_false, second_false, all_by, Place, place_in, entry_at, place_at, entries_of, place_of, AreApart, AreRows, same_Some}
+use Rattle.wq_delay.proofs.Common.{first_false, second_false, all_by, DuePlace, place_in, entry_at, place_at, entries_of, place_of, AreApart, AreRows, same_Some}
 use Rattle.wq_delay.specs.Rows.{is_before, slotted, with_place, entries_from}
 use Rattle.wq_delay.proofs.Table.{place_some, put_by}
 use Rattle.wq_words.proofs.Cases.{none_told}
@@ -19,7 +19,7 @@ pub place_behind : (k : ℕ) (e : Entry) (es : List Entry) → (k == e.item) ≡
 place_behind k e es is = rw is refl
 
 -- an entry stands before the place of an item behind it
-pub before_place : (k : ℕ) (key : Place) (e : Entry) (es : List Entry) → AllByRecursion (IsBefore e) es → place_of k es ≡ Some key
+pub before_place : (k : ℕ) (key : DuePlace) (e : Entry) (es : List Entry) → AllByRecursion (IsBefore e) es → place_of k es ≡ Some key
     → IsBefore e (entry_at key k)
 before_place k key e [] before is = absurd (cc)
 before_place k key e (f ∷ fs) before is = by (k == f.item) (before_place k key e fs before.1) is
@@ -46,7 +46,7 @@ same_first e f es fs p q same = by (e.item == f.item) refl
         let k : e.item ≡ f.item = eqb-true e.item f.item is in
         let at = same_Some (place_at f.due f.arming) (place_at e.due e.arming)
         (sym (place_first f fs) ∙ (ap (λ (z : ℕ). place_of z (f ∷ fs)) (sym k) ∙ there)) in
-        let d : e.due ≡ f.due = sym (ap (λ (z : Place). z.due) at) in let a : e.arming ≡ f.arming = sym (ap (λ (z : Place). z.arming) at) in
+        let d : e.due ≡ f.due = sym (ap (λ (z : DuePlace). z.due) at) in let a : e.arming ≡ f.arming = sym (ap (λ (z : DuePlace). z.arming) at) in
         λ i. record { due = d i; arming = a i; item = k i }
     by false is =
         let other : (f.item == e.item) ≡ false = grind (arith, nat_tests) in
@@ -76,14 +76,14 @@ same_entries (e ∷ es) (f ∷ fs) p q same =
 
 -- what holds of each place holds of each entry
 pub all_by_places : (P : Entry → Type 0) (es : List Entry) → IsOrdered es
-    → ((k : ℕ) (p : Place) → place_of k es ≡ Some p → P (entry_at p k)) → AllByRecursion P es
+    → ((k : ℕ) (p : DuePlace) → place_of k es ≡ Some p → P (entry_at p k)) → AllByRecursion P es
 all_by_places P [] ordered each = tt
 all_by_places P (e ∷ es) ordered each = (
   each e.item (place_at e.due e.arming) (place_first e es),
   all_by_places P es ordered.2 (λ k p is. each k p (place_behind k e es (apart k p is) ∙ is)),
 )
   where
-    apart : (k : ℕ) (p : Place) → place_of k es ≡ Some p → (k == e.item) ≡ false
+    apart : (k : ℕ) (p : DuePlace) → place_of k es ≡ Some p → (k == e.item) ≡ false
     apart k p is = by (k == e.item) refl
       where
         by : (b : Bool) → (k == e.item) ≡ b → (k == e.item) ≡ false
@@ -136,13 +136,13 @@ ordered_slotted e (f ∷ fs) ordered off apart = by (is_before e f) refl (ordere
     by false is rest = (all_slotted (IsBefore f) e fs (after is) ordered.0, away, rest)
 
 -- the entries of a list of places
-pub record Spells (i : ℕ) (os : List (Option Place)) (es : List Entry) : Type 0 where
+pub record SpellsEntries (i : ℕ) (os : List (Option DuePlace)) (es : List Entry) : Type 0 where
   pub ordered : IsOrdered es
   pub from : (j k : ℕ) → j ≡ i + k → place_of j es ≡ place_in os k
   pub below : (j : ℕ) → j < i → place_of j es ≡ None
 
-spells_more : (i : ℕ) (o : Option Place) (os : List (Option Place)) (es : List Entry) → AreApart (o ∷ os) → Spells (i + 1) os es
-    → Spells i (o ∷ os) (with_place i o es)
+spells_more : (i : ℕ) (o : Option DuePlace) (os : List (Option DuePlace)) (es : List Entry) → AreApart (o ∷ os) → SpellsEntries (i + 1) os es
+    → SpellsEntries i (o ∷ os) (with_place i o es)
 spells_more i None os es apart s = record {
   ordered = s.ordered;
   from = λ j k is. at j k is;
@@ -164,7 +164,7 @@ spells_more i (Some p) os es apart s = record {
     off : on_table i es ≡ false
     off = off_place i es (s.below i (omega arith))
 
-    other : (k : ℕ) (q : Place) → place_of k es ≡ Some q → p.arming ≢ q.arming
+    other : (k : ℕ) (q : DuePlace) → place_of k es ≡ Some q → p.arming ≢ q.arming
     other k q is same = by (nat_lt i k) refl
       where
         by : (b : Bool) → nat_lt i k ≡ b → ⊥
@@ -178,19 +178,19 @@ spells_more i (Some p) os es apart s = record {
     at j zero is = let e : (j == i) ≡ true = grind (arith, nat_tests) in rw e refl
     at j (suc k) is = let e : (j == i) ≡ false = grind (arith, nat_tests) in rw e (s.from j k (omega arith))
 
-spells : (i : ℕ) (os : List (Option Place)) → AreApart os → Spells i os (entries_from i os)
+spells : (i : ℕ) (os : List (Option DuePlace)) → AreApart os → SpellsEntries i os (entries_from i os)
 spells i [] apart = record { ordered = tt; from = λ j k is. refl; below = λ j low. refl }
 spells i (o ∷ os) apart =
     spells_more i o os (entries_from (i + 1) os) apart
     (spells (i + 1) os (λ j k p q a b e. let s = apart (suc j) (suc k) p q a b e in omega arith))
 
-pub entries_rows : (places : List (Option Place)) → AreApart places → AreRows places (entries_of places)
+pub entries_rows : (places : List (Option DuePlace)) → AreApart places → AreRows places (entries_of places)
 entries_rows places apart = let s = spells 0 places apart in record {
   ordered = s.ordered;
   known = λ k. sym (s.from k k (omega arith));
 }
 
-pub entries_is : (places : List (Option Place)) (es : List Entry) → AreApart places → AreRows places es → entries_of places ≡ es
+pub entries_is : (places : List (Option DuePlace)) (es : List Entry) → AreApart places → AreRows places es → entries_of places ≡ es
 entries_is places es apart rows =
     let own = entries_rows places apart in
     same_entries (entries_of places) es own.ordered rows.ordered (λ k. sym (own.known k) ∙ rows.known k)

@@ -2,7 +2,7 @@
 use Rattle.wq_delay.proofs.Common.{◌≡◌, ℕ, ◌+◌, ◌%◌, ◌<◌, ◌≤◌, Bool, true, false, cond, not, ◌||◌, ◌≢◌, List, [], ◌∷◌, map, length, get_or, take, set, is_some}
 use Rattle.wq_delay.proofs.Common.{nat_lt, nat_le, ◌==◌, slice_index, Some, None, All, filter, Option, sym, refl, ap, ◌∙◌, subst, arith, get_or-set_other}
 use Rattle.wq_delay.proofs.Common.{get_or-set_same, eqb-true, nat_tests, get_or_read, length-set, All-head, All-tail, All-weaker, All-take, Entry, due_part}
-use Rattle.wq_delay.proofs.Common.{without, IsOrdered, on_table, placed, AreArmedBefore, without_off, length_placed, Place, DueItem, place_in, later_than}
+use Rattle.wq_delay.proofs.Common.{without, IsOrdered, on_table, placed, AreArmedBefore, without_off, length_placed, DuePlace, DueItem, place_in, later_than}
 use Rattle.wq_delay.proofs.Common.{IsWheel, entry_at, entry_of, place_at, entries_of, stands, IsTimetable, AreApart, is_place, AreRows, same_Some}
 use Rattle.wq_delay.proofs.Rounds.{at_or}
 use Rattle.wq_delay.proofs.Wheel.{wheel_behind, wheel_without}
@@ -16,20 +16,20 @@ filter_alike {X} p q (x ∷ xs) all =
     ap (λ (z : Bool). cond z (x ∷ filter p xs) (filter p xs)) (All-head (λ y. p y ≡ q y) x xs all)
     ∙ ap (λ (z : List X). cond (q x) (x ∷ z) z) (filter_alike p q xs (All-tail (λ y. p y ≡ q y) x xs all))
 
-pub later_same : (t : ℕ) (o : Option Place) (p : Place) → later_than t o ≡ Some p → (o ≡ Some p) × (t < p.due)
+pub later_same : (t : ℕ) (o : Option DuePlace) (p : DuePlace) → later_than t o ≡ Some p → (o ≡ Some p) × (t < p.due)
 later_same t None p is = absurd (cc)
 later_same t (Some q) p is = by (nat_le q.due t) refl is
   where
     by : (b : Bool) → nat_le q.due t ≡ b → cond b None (Some q) ≡ Some p → (Some q ≡ Some p) × (t < p.due)
     by true early same = absurd (cc)
     by false late same =
-        let e : q ≡ p = same_Some q p same in let d = ap (λ (z : Place). z.due) e in let high : t < q.due = grind (arith, nat_tests) in
+        let e : q ≡ p = same_Some q p same in let d = ap (λ (z : DuePlace). z.due) e in let high : t < q.due = grind (arith, nat_tests) in
         (same, omega arith)
 
-pub later_some : (t : ℕ) (p : Place) → t < p.due → later_than t (Some p) ≡ Some p
+pub later_some : (t : ℕ) (p : DuePlace) → t < p.due → later_than t (Some p) ≡ Some p
 later_some t p late = let is : nat_le p.due t ≡ false = grind (arith, nat_tests) in rw is refl
 
-pub later_none : (t : ℕ) (p : Place) → p.due ≤ t → later_than t (Some p) ≡ None
+pub later_none : (t : ℕ) (p : DuePlace) → p.due ≤ t → later_than t (Some p) ≡ None
 later_none t p early = let is : nat_le p.due t ≡ true = grind (arith, nat_tests) in rw is refl
 
 due_placed : (t : ℕ) (e : Entry) (es : List Entry) → t < e.due → due_part t (placed e es) ≡ due_part t es
@@ -62,7 +62,7 @@ due_without t k (f ∷ fs) = by (nat_le f.due t) (k == f.item) refl refl (due_wi
     by false true p q is = is
     by false false p q is = rw p is
 
-module _ {places : List (Option Place)} {next previous : List ℕ} {row : List DueItem} {room front count tick : ℕ}
+module _ {places : List (Option DuePlace)} {next previous : List ℕ} {row : List DueItem} {room front count tick : ℕ}
     (t : IsTimetable places next previous row room front count tick) (k : ℕ) (low : k < length places) where
   abbrev es : List Entry
   es = entries_of places
@@ -71,17 +71,17 @@ module _ {places : List (Option Place)} {next previous : List ℕ} {row : List D
   rows = entries_rows places t.apart
 
   -- whether it is on the table is read off its place
-  pub is_on : (o : Option Place) → o ≡ get_or places k o → is_some o ≡ on_table k es
+  pub is_on : (o : Option DuePlace) → o ≡ get_or places k o → is_some o ≡ on_table k es
   is_on o read = ap is_some (get_or_read places k o low read None) ∙ known_on places es k rows
 
-  at_k : (v : Option Place) → place_in (set places k v) k ≡ v
+  at_k : (v : Option DuePlace) → place_in (set places k v) k ≡ v
   at_k v = get_or-set_same places k v None low
 
-  at_other : (v : Option Place) (j : ℕ) → j ≢ k → place_in (set places k v) j ≡ place_in places j
+  at_other : (v : Option DuePlace) (j : ℕ) → j ≢ k → place_in (set places k v) j ≡ place_in places j
   at_other v j ne = get_or-set_other places k j v None ne
 
   module _ (due arming : ℕ) (off : on_table k es ≡ false) (later : tick < due) (last : AreArmedBefore arming es) where
-    abbrev v : Option Place
+    abbrev v : Option DuePlace
     v = Some (place_at due arming)
 
     abbrev e : Entry
@@ -90,7 +90,7 @@ module _ {places : List (Option Place)} {next previous : List ℕ} {row : List D
     none : place_in places k ≡ None
     none = rows.known k ∙ place_off k es off
 
-    below : (j : ℕ) (p : Place) → place_in places j ≡ Some p → p.arming < arming
+    below : (j : ℕ) (p : DuePlace) → place_in places j ≡ Some p → p.arming < arming
     below j p is = below_place arming j p es last (sym (rows.known j) ∙ is)
 
     put_apart : AreApart (set places k v)
@@ -98,10 +98,10 @@ module _ {places : List (Option Place)} {next previous : List ℕ} {row : List D
         at_or (λ z. place_in (set places k v) z ≡ Some p → z ≡ j) k i
         (λ a. at_or (λ z. place_in (set places k v) z ≡ Some q → k ≡ z) k j (λ _. refl)
         (λ nj b. let x = below j q (sym (at_other v j nj) ∙ b) in
-        let y = ap (λ (z : Place). z.arming) (same_Some (place_at due arming) p (sym (at_k v) ∙ a)) in absurd (omega arith)) b)
+        let y = ap (λ (z : DuePlace). z.arming) (same_Some (place_at due arming) p (sym (at_k v) ∙ a)) in absurd (omega arith)) b)
         (λ ni a. at_or (λ z. place_in (set places k v) z ≡ Some q → i ≡ z) k j
         (λ b. let x = below i p (sym (at_other v i ni) ∙ a) in
-        let y = ap (λ (z : Place). z.arming) (same_Some (place_at due arming) q (sym (at_k v) ∙ b)) in absurd (omega arith))
+        let y = ap (λ (z : DuePlace). z.arming) (same_Some (place_at due arming) q (sym (at_k v) ∙ b)) in absurd (omega arith))
         (λ nj b. t.apart i j p q (sym (at_other v i ni) ∙ a) (sym (at_other v j nj) ∙ b) same) b) a
 
     pub put_entries : entries_of (set places k v) ≡ placed e es
@@ -138,8 +138,8 @@ module _ {places : List (Option Place)} {next previous : List ℕ} {row : List D
           count_is = let f = t.count_is in let g = ap (length {A = Entry}) put_entries in let h = length_placed e es in omega arith;
         }
 
-  module _ {q : Place} (some : place_in places k ≡ Some q) where
-    gone : (j : ℕ) (p : Place) → place_in (set places k None) j ≡ Some p → place_in places j ≡ Some p
+  module _ {q : DuePlace} (some : place_in places k ≡ Some q) where
+    gone : (j : ℕ) (p : DuePlace) → place_in (set places k None) j ≡ Some p → place_in places j ≡ Some p
     gone j p is = at_or (λ z. place_in (set places k None) z ≡ Some p → place_in places z ≡ Some p) k j
         (λ a. let e = sym (at_k None) ∙ a in absurd (cc))
         (λ ne a. sym (at_other None j ne) ∙ a) is
@@ -221,4 +221,4 @@ module _ {places : List (Option Place)} {next previous : List ℕ} {row : List D
         λ j. at_or (λ z. later_than tick (place_in places z) ≡ later_than tick (place_in (set places k None) z)) k j
         (ap (later_than tick) some ∙ (later_none tick q early ∙ sym (ap (later_than tick) (at_k None))))
         (λ ne. sym (ap (later_than tick) (at_other None j ne))) in
-        subst (λ (z : ℕ → Option Place). IsWheel (length places) next previous z) (λ i j. same j i) t.wheel
+        subst (λ (z : ℕ → Option DuePlace). IsWheel (length places) next previous z) (λ i j. same j i) t.wheel

@@ -2,7 +2,7 @@
 use Rattle.std.proofs.lemmas.List.FromFn.{length-range_with_len, get_or-range_with_len}
 use Rattle.wq_delay.proofs.Common.{◌≡◌, ℕ, zero, suc, ◌+◌, ◌*◌, ◌≤◌, List, [], length, get_or, replicate, None, Option, sym, refl, ap, ◌∙◌, arith, All-nil}
 use Rattle.wq_words.specs.Limits.{most_items}
-use Rattle.wq_delay.proofs.Common.{range_with_len, Entry, due_part, Place, place_in, head_by, later_than, entries_of, IsTimetable, AreApart, AreRows}
+use Rattle.wq_delay.proofs.Common.{range_with_len, Entry, due_part, DuePlace, place_in, head_by, later_than, entries_of, IsTimetable, AreApart, AreRows}
 use Rattle.wq_delay.proofs.Rounds.{rings_alone}
 use Rattle.wq_delay.proofs.Spelled.{entries_is}
 
@@ -11,9 +11,9 @@ nothing_at zero k = refl
 nothing_at (suc n) zero = refl
 nothing_at (suc n) (suc k) = nothing_at n k
 
-module _ (places : List (Option Place)) (n : ℕ) (places_are : places ≡ replicate n None) (size : length places ≡ n) where
+module _ (places : List (Option DuePlace)) (n : ℕ) (places_are : places ≡ replicate n None) (size : length places ≡ n) where
   pub nothing_in : (k : ℕ) → place_in places k ≡ None
-  nothing_in k = ap (λ (z : List (Option Place)). place_in z k) places_are ∙ nothing_at n k
+  nothing_in k = ap (λ (z : List (Option DuePlace)). place_in z k) places_are ∙ nothing_at n k
 
   apart : AreApart places
   apart j k p q a b same = let e = nothing_in j in absurd (cc)
@@ -36,7 +36,7 @@ module _ (places : List (Option Place)) (n : ℕ) (places_are : places ≡ repli
       rings = rings_alone _ _ _ _ (length places + 256)
           (λ x low. ap (λ (z : List ℕ). get_or z x 0) next_is ∙ (get_or-range_with_len 0 m x 0 (omega arith) ∙ (omega arith)))
           (λ x low. ap (λ (z : List ℕ). get_or z x 0) previous_is ∙ (get_or-range_with_len 0 m x 0 (omega arith) ∙ (omega arith)))
-          (λ x. ap (λ (z : Option Place). head_by (length places) x (later_than tick z)) (nothing_in x));
+          (λ x. ap (λ (z : Option DuePlace). head_by (length places) x (later_than tick z)) (nothing_in x));
     };
     due_is = sym (ap (due_part tick) no_entries);
     early = All-nil (λ e. e.place.due ≤ tick);

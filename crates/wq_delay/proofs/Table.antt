@@ -1,6 +1,6 @@
 -- Where each item stands on a table.
 use Rattle.wq_delay.proofs.Common.{◌≡◌, ℕ, Bool, true, false, cond, not, ◌||◌, List, [], ◌∷◌, is_some, nat_lt, ◌==◌, Some, None, Option, refl, ap, ◌∙◌, arith}
-use Rattle.wq_delay.proofs.Common.{nat_tests, Entry, without, on_table, placed, first_false, second_false, Place, place_at, place_of}
+use Rattle.wq_delay.proofs.Common.{nat_tests, Entry, without, on_table, placed, first_false, second_false, DuePlace, place_at, place_of}
 
 -- where each item stands
 pub place_some : (k : ℕ) (es : List Entry) → is_some (place_of k es) ≡ on_table k es
@@ -23,7 +23,7 @@ pub put_by : (b : Bool) (j : ℕ) (e f : Entry) (fs gs : List Entry) → (e.item
     → place_of j (cond b (e ∷ f ∷ fs) (f ∷ gs)) ≡ cond (j == e.item) (Some (place_at e.due e.arming)) (place_of j (f ∷ fs))
 put_by true j e f fs gs apart is = refl
 put_by false j e f fs gs apart is =
-    ap (λ (z : Option Place). cond (j == f.item) (Some (place_at f.due f.arming)) z) is
+    ap (λ (z : Option DuePlace). cond (j == f.item) (Some (place_at f.due f.arming)) z) is
     ∙ placed_at j e.item f.item true (j == e.item) (j == f.item) (Some (place_at e.due e.arming)) (Some (place_at f.due f.arming))
     (place_of j fs) refl refl apart
 
@@ -42,9 +42,9 @@ gone_at j k i false true true x y n a b c = absurd (grind (arith, nat_tests))
 gone_at j k i false true false x y n a b c = refl
 gone_at j k i false false r x y n a b c = refl
 
-place_by : (j : ℕ) (b : Bool) (f : Entry) (fs : List Entry) (r : Option Place) → place_of j fs ≡ r
+place_by : (j : ℕ) (b : Bool) (f : Entry) (fs : List Entry) (r : Option DuePlace) → place_of j fs ≡ r
     → place_of j (cond b (f ∷ fs) fs) ≡ cond b (cond (j == f.item) (Some (place_at f.due f.arming)) r) r
-place_by j true f fs r is = ap (λ (z : Option Place). cond (j == f.item) (Some (place_at f.due f.arming)) z) is
+place_by j true f fs r is = ap (λ (z : Option DuePlace). cond (j == f.item) (Some (place_at f.due f.arming)) z) is
 place_by j false f fs r is = is
 
 pub place_of-without : (j k : ℕ) (es : List Entry) → place_of j (without k es) ≡ cond (j == k) None (place_of j es)

@@ -2,10 +2,10 @@
 use Rattle.std.proofs.lemmas.List.Elements.{filter_passes, All-append}
 use Rattle.wq_delay.proofs.Common.{◌≡◌, ℕ, ◌*◌, ◌≤◌, Bool, true, cond, List, [], ◌∷◌, ◌++◌, map, length, filter, Some, All, Option, sym, ap, ◌∙◌, subst}
 use Rattle.wq_delay.proofs.Common.{arith, append_assoc, append-nil, length-append, length-map, map-append, filter-append, All-filter, All-nil, All-push, Entry}
-use Rattle.wq_delay.proofs.Common.{Place, DueItem, place_in, entry_of, stands, remaining, RowHasRoom, PutsBehind}
+use Rattle.wq_delay.proofs.Common.{DuePlace, DueItem, place_in, entry_of, stands, remaining, RowHasRoom, PutsBehind}
 use Rattle.wq_delay.proofs.Leading.{filter_all, place_stands}
 
-module _ (places : List (Option Place)) (row kept : List DueItem) (is : kept ≡ filter (stands places) row) where
+module _ (places : List (Option DuePlace)) (row kept : List DueItem) (is : kept ≡ filter (stands places) row) where
   pub tidied_same : filter (stands places) kept ≡ filter (stands places) row
   tidied_same =
       ap (filter (stands places)) is ∙ filter_all (stands places) (filter (stands places) row) (filter_passes (stands places) row)
@@ -22,7 +22,7 @@ module _ (places : List (Option Place)) (row kept : List DueItem) (is : kept ≡
   }
 
 -- an item that is put behind the row
-module _ (places : List (Option Place)) where
+module _ (places : List (Option DuePlace)) where
   pub item_stands : (e : DueItem) → place_in places e.item ≡ Some e.place → stands places e ≡ true
   item_stands e is = place_stands e.place (place_in places e.item) is
 

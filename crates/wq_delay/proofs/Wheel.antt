@@ -1,6 +1,6 @@
 -- A wheel after an item was put behind the last of a slot, and after one was taken out.
 use Rattle.wq_delay.proofs.Common.{◌≡◌, ℕ, ◌+◌, ◌%◌, ◌<◌, ◌≤◌, ◌≢◌, List, length, get_or, set, slice_index, Some, None, Option, sym, refl, ap, ◌∙◌, mod-lt, nat_tests}
-use Rattle.wq_delay.proofs.Common.{arith, get_or-set_other, get_or-set_same, length-set, Place, head_by, number_by, IsWheel, place_at, Bool, true, false, nat_lt}
+use Rattle.wq_delay.proofs.Common.{arith, get_or-set_other, get_or-set_same, length-set, DuePlace, head_by, number_by, IsWheel, place_at, Bool, true, false, nat_lt}
 use Rattle.wq_delay.proofs.Rounds.{last_other, next_other, previous_other, rings_behind, rings_without}
 
 -- two writes into a row
@@ -20,7 +20,7 @@ pub slot_low : (size due : ℕ) → (size ≤ size + due % 256) × (size + due %
 slot_low size due = let e = mod-lt due {m = 256} (omega arith) in (omega arith, omega arith)
 
 -- what waits is an item, and no slot
-pub item_low : {size : ℕ} {next previous : List ℕ} {w : ℕ → Option Place} → IsWheel size next previous w → (k : ℕ) (p : Place) → w k ≡ Some p → k < size
+pub item_low : {size : ℕ} {next previous : List ℕ} {w : ℕ → Option DuePlace} → IsWheel size next previous w → (k : ℕ) (p : DuePlace) → w k ≡ Some p → k < size
 item_low {size} wheel k p is = by (nat_lt k size) refl
   where
     by : (b : Bool) → nat_lt k size ≡ b → k < size
@@ -28,19 +28,19 @@ item_low {size} wheel k p is = by (nat_lt k size) refl
     by false ge = let none = wheel.heads k (grind (arith, nat_tests)) in absurd (cc)
 
 -- an item's ring is that of its slot, or it is alone
-head_item : (size x k : ℕ) (o : Option Place) → k < size → head_by size x o ≡ k → x ≡ k
+head_item : (size x k : ℕ) (o : Option DuePlace) → k < size → head_by size x o ≡ k → x ≡ k
 head_item size x k None low is = is
 head_item size x k (Some p) low is = let e = slot_low size p.due in absurd (omega arith)
 
-slot_not : (size k : ℕ) (p : Place) → k < size → size + p.due % 256 ≢ k
+slot_not : (size k : ℕ) (p : DuePlace) → k < size → size + p.due % 256 ≢ k
 slot_not size k p low is = let e = slot_low size p.due in omega arith
 
-number_low : (n : ℕ) (o : Option Place) → ((p : Place) → o ≡ Some p → p.arming < n) → number_by o < n + 1
+number_low : (n : ℕ) (o : Option DuePlace) → ((p : DuePlace) → o ≡ Some p → p.arming < n) → number_by o < n + 1
 number_low n None below = omega arith
 number_low n (Some p) below = let e = below p refl in omega arith
 
-pub wheel_behind : (size : ℕ) (next previous next' previous' : List ℕ) (w w' : ℕ → Option Place) (k due arming : ℕ)
-    → IsWheel size next previous w → k < size → w k ≡ None → ((j : ℕ) (p : Place) → w j ≡ Some p → p.arming < arming)
+pub wheel_behind : (size : ℕ) (next previous next' previous' : List ℕ) (w w' : ℕ → Option DuePlace) (k due arming : ℕ)
+    → IsWheel size next previous w → k < size → w k ≡ None → ((j : ℕ) (p : DuePlace) → w j ≡ Some p → p.arming < arming)
     → w' k ≡ Some (place_at due arming) → ((j : ℕ) → j ≢ k → w' j ≡ w j)
     → next' ≡ set (set next (slice_index previous (size + due % 256)) k) k (size + due % 256)
     → previous' ≡ set (set previous (size + due % 256) k) k (slice_index previous (size + due % 256))
@@ -74,7 +74,7 @@ wheel_behind size next previous next' previous' w w' k due arming wheel low none
           (λ x x_low is. let e = ap number_by at in let f = number_low arming (w x) (armed x) in omega arith);
     }
 
-pub wheel_without : (size : ℕ) (next previous next' previous' : List ℕ) (w w' : ℕ → Option Place) (k : ℕ) (q : Place)
+pub wheel_without : (size : ℕ) (next previous next' previous' : List ℕ) (w w' : ℕ → Option DuePlace) (k : ℕ) (q : DuePlace)
     → IsWheel size next previous w → k < size → w k ≡ Some q
     → w' k ≡ None → ((j : ℕ) → j ≢ k → w' j ≡ w j)
     → next' ≡ set (set next (slice_index previous k) (slice_index next k)) k k

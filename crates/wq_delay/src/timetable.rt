@@ -19,7 +19,7 @@ const SLOTS: u32 = 256;
 
 // Where an item stands: the tick at which it is due, and the number of its arming.
 #[derive(Clone, Copy, PartialEq, Eq, PartialOrd, Ord)]
-struct Place {
+struct DuePlace {
     due: u64,
     arming: u64,
 }
@@ -27,7 +27,7 @@ struct Place {
 // An item that is due, and the place at which it was found. They go out in the order of their places.
 #[derive(Clone, Copy, PartialEq, Eq, PartialOrd, Ord)]
 struct DueItem {
-    place: Place,
+    place: DuePlace,
     item: u32,
 }
 
@@ -40,7 +40,7 @@ struct DueItem {
 // what still waits there.
 #[derive(Drop)]
 pub(crate) struct Timetable {
-    places: Vec<Option<Place>>,
+    places: Vec<Option<DuePlace>>,
     rings: Rings,
     earliest: Vec<u64>,
     row: Vec<DueItem>,
@@ -50,14 +50,14 @@ pub(crate) struct Timetable {
 }
 
 // Whether the item still stands where the row says.
-fn is_there(places: &[Option<Place>], entry: DueItem) -> bool
+fn is_there(places: &[Option<DuePlace>], entry: DueItem) -> bool
     ensures { result ≡ stands places.now entry }
 {
     places.get(entry.item as usize) == Some(&Some(entry.place))
 }
 
 // The first place from `front` on whose item still stands where the row says.
-fn first_there(places: &[Option<Place>], row: &[DueItem], front: usize) -> usize
+fn first_there(places: &[Option<DuePlace>], row: &[DueItem], front: usize) -> usize
     ensures passed { filter (stands places.now) (take front row.now) ≡ [] → filter (stands places.now) (take result row.now) ≡ [] }
     ensures there { (d : _) → result < length row.now → stands places.now (slice_index_or row.now result d) ≡ true }
     ensures low { result ≤ length row.now }
@@ -73,7 +73,7 @@ fn first_there(places: &[Option<Place>], row: &[DueItem], front: usize) -> usize
 // What stands in the row from the place `front` on and is due at a tick, in order.
 fn out_by(
     alloc: Global,
-    places: &[Option<Place>],
+    places: &[Option<DuePlace>],
     row: &[DueItem],
     front: usize,
     now: u64,
@@ -90,7 +90,7 @@ fn out_by(
 // Adds to a list what is due at the tick `now` of the slot that is so many slots behind the one after `tick`, in its order. The
 // slot's ring is passed over where nothing of it is due by then.
 fn find(
-    places: &[Option<Place>],
+    places: &[Option<DuePlace>],
     rings: &Rings,
     earliest: &[u64],
     found: &mut Vec<DueItem>,
@@ -124,7 +124,7 @@ fn find(
 
 // Adds to what is due at the tick `tick` what is due by the tick `now`: it stands in the slots of the ticks between them.
 fn find_on(
-    places: &[Option<Place>],
+    places: &[Option<DuePlace>],
     rings: &Rings,
     earliest: &[u64],
     found: &mut Vec<DueItem>,
@@ -152,7 +152,7 @@ fn items_of(alloc: Global, row: &[DueItem]) -> Result<Vec<u32>, AllocError>
 }
 
 // Looks at the slot with this head, and moves what is due at the tick `now` behind the row, in the order of the slot.
-fn look(places: &[Option<Place>], rings: &mut Rings, row: &mut Vec<DueItem>, head: u32, now: u64)
+fn look(places: &[Option<DuePlace>], rings: &mut Rings, row: &mut Vec<DueItem>, head: u32, now: u64)
     requires gathering { IsGathering places.now rings.old.next.items rings.old.previous.items (remaining places.now row.old.items) now }
     requires head { (length places.now ≤ head) × (head < length places.now + 256) }
     requires room { RowHasRoom places.now row.old.items (vec_capacity row.old) }
@@ -176,7 +176,7 @@ fn look(places: &[Option<Place>], rings: &mut Rings, row: &mut Vec<DueItem>, hea
 }
 
 // A tick before which nothing that waits in the slot with this head is due: the earliest of it, or the last where nothing waits.
-fn earliest_in(places: &[Option<Place>], rings: &Rings, head: u32) -> u64
+fn earliest_in(places: &[Option<DuePlace>], rings: &Rings, head: u32) -> u64
     requires head { (length places.now ≤ head) × (head < length places.now + 256) }
     requires wheel { (es : List Entry) × IsWheel (length places.now) rings.now.next.items rings.now.previous.items (waiting places.now es) }
     ensures { (es : List Entry) → IsWheel (length places.now) rings.now.next.items rings.now.previous.items (waiting places.now es)
@@ -195,7 +195,7 @@ fn earliest_in(places: &[Option<Place>], rings: &Rings, head: u32) -> u64
 
 // Looks at a slot, where something of it may be due at the tick `now`, and notes the earliest tick of what still waits there.
 fn look_at(
-    places: &[Option<Place>],
+    places: &[Option<DuePlace>],
     rings: &mut Rings,
     row: &mut Vec<DueItem>,
     earliest: &mut Vec<u64>,
@@ -225,7 +225,7 @@ fn look_at(
 
 // Takes out of a row what has left the table, where the row has no place from `front` on, or is longer than twice as many as there
 // are items. The place from which on something may stand there.
-fn tidy(places: &[Option<Place>], row: &mut Vec<DueItem>, front: usize) -> usize
+fn tidy(places: &[Option<DuePlace>], row: &mut Vec<DueItem>, front: usize) -> usize
     requires few { length places.now ≤ most_items }
     requires passed { filter (stands places.now) (take front row.old.items) ≡ [] }
     requires enough { 3 * length places.now ≤ vec_capacity row.old }
@@ -264,7 +264,7 @@ fn sort(due: &mut Vec<DueItem>)
 // Looks at the slots of the ticks after `tick` up to `now` in turn, or at each slot once where there are more ticks than slots.
 // How many slots it looked at, at each of them at least at its earliest tick.
 fn look_on(
-    places: &[Option<Place>],
+    places: &[Option<DuePlace>],
     rings: &mut Rings,
     row: &mut Vec<DueItem>,
     earliest: &mut Vec<u64>,
@@ -382,7 +382,7 @@ impl Timetable {
     {
         let slot = (due % SLOTS as u64) as u32;
         let head = self.places.len() as u32 + slot;
-        self.places[item as usize] = Some(Place { due, arming });
+        self.places[item as usize] = Some(DuePlace { due, arming });
         self.rings.put_behind(item, head);
         note(&mut self.earliest, due);
         self.count += 1;

@@ -11,7 +11,7 @@ use Rattle.wq_text.specs.declared.command.Command.TheVariants as command
 use Rattle.wq_meaning.specs.Order.{IsInOrder, final_state}
 
 -- in order, and all armed under numbers that were given out
-record Kept (t : DelayTable) : Type 0 where
+record KeptInOrder (t : DelayTable) : Type 0 where
   order : IsInOrder t.entries
   numbers : All (λ e. e.arming < t.next) t.entries
 
@@ -68,19 +68,19 @@ all_filter {X} P p (x ∷ xs) all = each (p x) (all_filter P p xs (tail_of P x x
     each true rest = all_of P x (filter p xs) (all 0 x (omega arith)) rest
     each false rest = rest
 
-kept_with : (item delay : ℕ) (t : DelayTable) → Kept t → Kept (table_with item delay t)
+kept_with : (item delay : ℕ) (t : DelayTable) → KeptInOrder t → KeptInOrder (table_with item delay t)
 kept_with item delay t k =
     let e : Entry = record { due = t.tick + delay; arming = t.next; item = item } in
     let older : All (λ f. f.arming < t.next + 1) t.entries = λ i d lt. let less = k.numbers i d lt in omega (arith, less) in
     record { order = order_placed e t.entries k.order k.numbers; numbers = all_placed (λ f. f.arming < t.next + 1) e t.entries (omega arith) older }
 
-kept_without : (item : ℕ) (t : DelayTable) → Kept t → Kept (table_without item t)
+kept_without : (item : ℕ) (t : DelayTable) → KeptInOrder t → KeptInOrder (table_without item t)
 kept_without item t k = record {
   order = AllPairs-filter IsBefore (λ e. not (item == e.item)) t.entries k.order;
   numbers = all_filter (λ f. f.arming < t.next) (λ e. not (item == e.item)) t.entries k.numbers;
 }
 
-kept_at : (tick : ℕ) (t : DelayTable) → Kept t → Kept (table_at tick [] t)
+kept_at : (tick : ℕ) (t : DelayTable) → KeptInOrder t → KeptInOrder (table_at tick [] t)
 kept_at tick t k = record {
   order = AllPairs-filter IsBefore (λ e. not (nat_le e.due tick)) t.entries k.order;
   numbers = all_filter (λ f. f.arming < t.next) (λ e. not (nat_le e.due tick)) t.entries k.numbers;
@@ -104,7 +104,7 @@ due_first tick es i d lt j c below =
     (omega (arith, now, later), λ is. absurd (omega (arith, is, now, later)))
 
 -- what is due stays in front of what is not
-kept_left : (tick : ℕ) (t : DelayTable) → Kept t → Kept (table_at tick (due_part tick t.entries) t)
+kept_left : (tick : ℕ) (t : DelayTable) → KeptInOrder t → KeptInOrder (table_at tick (due_part tick t.entries) t)
 kept_left tick t k =
     let later = kept_at tick t k in
     let due = AllPairs-filter IsBefore (λ e. nat_le e.due tick) t.entries k.order in
@@ -114,23 +114,23 @@ kept_left tick t k =
       numbers = All-append (λ f. f.arming < t.next) (due_part tick t.entries) (later_part tick t.entries) old later.numbers;
     }
 
-kept_advance : (tick : ℕ) (h : List Event) (t : DelayTable) → Kept t → Kept (advance_table tick h t)
+kept_advance : (tick : ℕ) (h : List Event) (t : DelayTable) → KeptInOrder t → KeptInOrder (advance_table tick h t)
 kept_advance tick h t k = each (draining h)
   where
-    each : (drains : Bool) → Kept (table_at tick (if drains then due_part tick t.entries else []) t)
+    each : (drains : Bool) → KeptInOrder (table_at tick (if drains then due_part tick t.entries else []) t)
     each true = kept_left tick t k
     each false = kept_at tick t k
 
-kept_choice : (b : Bool) (t u : DelayTable) → Kept t → Kept u → Kept (if b then t else u)
+kept_choice : (b : Bool) (t u : DelayTable) → KeptInOrder t → KeptInOrder u → KeptInOrder (if b then t else u)
 kept_choice true t u k l = k
 kept_choice false t u k l = l
 
-kept_arm : (item delay : ℕ) (h : List Event) (t : DelayTable) → Kept t → Kept (arm_table item delay h t)
+kept_arm : (item delay : ℕ) (h : List Event) (t : DelayTable) → KeptInOrder t → KeptInOrder (arm_table item delay h t)
 kept_arm item delay h t k =
     let now = kept_choice (queues_now item delay h) t (table_with item delay t) k (kept_with item delay t k) in
     kept_choice (is_too_far delay t) t _ k now
 
-kept_modify : (item delay : ℕ) (h : List Event) (t : DelayTable) → Kept t → Kept (modify_table item delay h t)
+kept_modify : (item delay : ℕ) (h : List Event) (t : DelayTable) → KeptInOrder t → KeptInOrder (modify_table item delay h t)
 kept_modify item delay h t k =
     let off = kept_without item t k in
     let u : DelayTable = table_without item t in
@@ -138,11 +138,11 @@ kept_modify item delay h t k =
     let moved = kept_choice (delay == 0) (post_table item h t) (table_with item delay u) posted (kept_with item delay u off) in
     kept_choice (is_too_far delay t) t _ k (kept_choice (on_table item t.entries) _ (arm_table item delay h t) moved (kept_arm item delay h t k))
 
-kept_either : (b : Bool) (s u : ScriptState) → Kept s.table → Kept u.table → Kept (if b then s else u).table
+kept_either : (b : Bool) (s u : ScriptState) → KeptInOrder s.table → KeptInOrder u.table → KeptInOrder (if b then s else u).table
 kept_either true s u k l = k
 kept_either false s u k l = l
 
-kept_after : (layout : Layout) (s : ScriptState) (c : Command) → Kept s.table → Kept (state_after layout s c).table
+kept_after : (layout : Layout) (s : ScriptState) (c : Command) → KeptInOrder s.table → KeptInOrder (state_after layout s c).table
 kept_after layout s (command.Drain limit) k = kept_either (closed s.history) (record s { history = after_row layout s limit None }) s k k
 kept_after layout s (command.Arm item delay) k = kept_arm item delay s.history s.table k
 kept_after layout s (command.Cancel item) k = kept_without item s.table k
@@ -150,13 +150,13 @@ kept_after layout s (command.Modify item delay) k = kept_modify item delay s.his
 kept_after layout s (command.Advance tick) k = kept_either (nat_lt tick s.table.tick) s _ k (kept_advance tick s.history s.table k)
 kept_after layout s _ k = k
 
-kept_all : (layout : Layout) (s : ScriptState) (cs : List Command) → Kept s.table → Kept (fold (state_after layout) s cs).table
+kept_all : (layout : Layout) (s : ScriptState) (cs : List Command) → KeptInOrder s.table → KeptInOrder (fold (state_after layout) s cs).table
 kept_all layout s [] k = k
 kept_all layout s (c ∷ cs) k = kept_all layout (state_after layout s c) cs (kept_after layout s c k)
 
 pub final_in_order : (layout : Layout) (commands : List Command) → IsInOrder (final_state layout commands).table.entries
 final_in_order layout commands =
-    let none : Kept (opening_state layout).table = record {
+    let none : KeptInOrder (opening_state layout).table = record {
       order = λ i j d _ lt. absurd (omega (arith, lt));
       numbers = λ i d lt. absurd (omega (arith, lt));
     } in

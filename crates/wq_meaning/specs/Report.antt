@@ -6,10 +6,10 @@ use Rattle.wq_words.specs.declared.event.Event.{Event}
 use Rattle.wq_words.specs.History.{accepted, ended}
 use Rattle.wq_words.specs.Counting.{is_chain, is_busy, is_refusal}
 use Rattle.wq_meaning.specs.Execution.{left_in}
-use Rattle.wq_meaning.specs.declared.report.Counts.{Counts}
+use Rattle.wq_meaning.specs.declared.report.ReportCounts.{ReportCounts}
 
 -- the counts of a history, where so many items stand on the delay table
-abbrev pub counts_of : ℕ → List Event → Counts
+abbrev pub counts_of : ℕ → List Event → ReportCounts
 counts_of delayed h = record {
   accepted = length (accepted h);
   chained = count_by is_chain h;
@@ -26,7 +26,7 @@ line text = text ++ 10 ∷ []
 unfoldable pub count_line : List ℕ → ℕ → List ℕ
 count_line word n = line (word ++ codes " " ++ decimal n)
 
-abbrev pub report_text : Counts → List ℕ
+abbrev pub report_text : ReportCounts → List ℕ
 report_text counts =
     flat_map (λ (c : List ℕ × ℕ). count_line c.0 c.1) (
     (codes "accepted", counts.accepted) ∷ (codes "chained", counts.chained) ∷ (codes "executed", counts.executed)

@@ -16,6 +16,6 @@ pub use error::RunError;
 pub use lines::{advance_word, either, write_left, write_line, write_named, write_row};
 pub use order::ordered_tables;
 pub use replies::why_text;
-pub use report::{Counts, write_count};
+pub use report::{ReportCounts, write_count};
 pub use schedule_history::steps_history;
 pub use schedule_output::{one_output, run_steps};

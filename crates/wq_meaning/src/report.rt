@@ -6,7 +6,7 @@ use std::alloc::AllocError;
 
 /// Counts over all events so far, and what waits now.
 #[derive(Clone, Copy, Debug, PartialEq, Eq)]
-pub struct Counts {
+pub struct ReportCounts {
     /// Numbers that were pushed or chained.
     pub accepted: u64,
     /// Those of them that were chained.
@@ -31,7 +31,7 @@ pub fn write_count(word: &str, count: u64, out: &mut String) -> Result<(), Alloc
     writeln!(out, "{word} {count}")
 }
 
-impl Counts {
+impl ReportCounts {
     /// Writes the seven lines of a report.
     pub fn write(self, out: &mut String) -> Result<(), AllocError>
         ensures written { OnOk result (string_bytes out.new ≡ string_bytes out.old ++ report_text self) }

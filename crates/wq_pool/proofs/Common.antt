@@ -15,5 +15,5 @@ pub use Rattle.wq_pool.specs.Known.{SlotsState, TurnState, id_of, turn_id, seen_
 pub use Rattle.wq_pool.specs.Finish.{AreFirst, AreComplete, LeavesOf, FirstLeft, WasDrainedAt, WereDrained, ComeFromDrains}
 pub use Rattle.wq_pool.specs.Finish.{FirstWereDrained, IsLeftTo, HasEndedAt}
 pub use Rattle.wq_pool.specs.Finished.{AreFinishedBy, RanToEndBy, ArePartsOf, AreTakenApart, BeginAsHandedIn}
-pub use Rattle.wq_pool.specs.Slots.{IsWorkerAt, IsHandedAt, handed_of, KeptSlots, empty_hand, hand_with, SlotSat, picks_up, lays_down, comes}
+pub use Rattle.wq_pool.specs.Slots.{IsWorkerAt, IsHandedAt, handed_of, KeptSlots, empty_hand, hand_with, SlotSat, picks_up, lays_down, comes_in}
 pub use Rattle.wq_pool.specs.Pool.{GoesOnFrom, IsTurnOf}

@@ -10,36 +10,36 @@ use Rattle.atomic_table.proofs.Lists.{at_set, at_snoc, set_here, set_else, set_a
 use Rattle.wq_pool.proofs.Common.{◌≡◌, ℕ, zero, suc, ◌<◌, Bool, cond, eqb, ◌≢◌, List, [], ◌∷◌, map, length, get_or, set, replicate, Some, None, MatchBool}
 use Rattle.wq_pool.proofs.Common.{Option, sym, refl, ap, ◌∙◌, subst, inl, inr, arith, length-set, get_or-set_other, get_or-set_same, eq-eqb, ne_eqb, length-map}
 use Rattle.wq_pool.proofs.Common.{length-replicate, step, Allows, State, keeps, takes, gives, Act, Enters, stepped, opening, carried_after, Valid, WorkerState}
-use Rattle.wq_pool.proofs.Common.{HandedIn, handed_of, seen_by, id_of, IsHandedAt, KeptSlots, empty_hand, hand_with, SlotSat, picks_up, lays_down, comes}
-use Rattle.wq_pool.specs.declared.slots.Hand.{Hand}
+use Rattle.wq_pool.proofs.Common.{HandedIn, handed_of, seen_by, id_of, IsHandedAt, KeptSlots, empty_hand, hand_with, SlotSat, picks_up, lays_down, comes_in}
+use Rattle.wq_pool.specs.declared.slots.QueueHand.{QueueHand}
 use Rattle.wq_words.proofs.Prefixes.{prefix_self}
 use Rattle.wq_worker.specs.Rows.{here}
 
 abbrev SlotsNow : Type 0 → Type 0
-SlotsNow K = State (Option K) (Hand K)
+SlotsNow K = State (Option K) (QueueHand K)
 
 -- a hand is empty or has one queue
-empty_has : {K : Type 0} (handed : HandedIn K) (hand : Hand K) (q : ℕ) → empty_hand handed ≡ hand → hand.queue ≡ Some q → ⊥
-empty_has {K = K} handed hand q is has = none-some q (ap (λ (h : Hand K). h.queue) is ∙ has)
+empty_has : {K : Type 0} (handed : HandedIn K) (hand : QueueHand K) (q : ℕ) → empty_hand handed ≡ hand → hand.queue ≡ Some q → ⊥
+empty_has {K = K} handed hand q is has = none-some q (ap (λ (h : QueueHand K). h.queue) is ∙ has)
 
 queue_in : Option ℕ → ℕ
 queue_in None = 0
 queue_in (Some q) = q
 
-one_queue : {K : Type 0} (handed : HandedIn K) (hand : Hand K) (q k : ℕ) → hand_with handed q ≡ hand → hand.queue ≡ Some k → q ≡ k
+one_queue : {K : Type 0} (handed : HandedIn K) (hand : QueueHand K) (q k : ℕ) → hand_with handed q ≡ hand → hand.queue ≡ Some k → q ≡ k
 unfolding queue_in
-one_queue {K = K} handed hand q k is has = ap queue_in (ap (λ (h : Hand K). h.queue) is ∙ has)
+one_queue {K = K} handed hand q k is has = ap queue_in (ap (λ (h : QueueHand K). h.queue) is ∙ has)
 
-handed_of_hand : {K : Type 0} (handed : HandedIn K) (hand : Hand K) → empty_hand handed ≡ hand → hand.handed ≡ handed
-handed_of_hand {K = K} handed hand is = ap (λ (h : Hand K). h.handed) (sym is)
+handed_of_hand : {K : Type 0} (handed : HandedIn K) (hand : QueueHand K) → empty_hand handed ≡ hand → hand.handed ≡ handed
+handed_of_hand {K = K} handed hand is = ap (λ (h : QueueHand K). h.handed) (sym is)
 
-lone_seat : {K : Type 0} (handed : HandedIn K) (seat : ℕ) (hand : Hand K) → get_elem? (empty_hand handed ∷ []) seat ≡ some hand → empty_hand handed ≡ hand
+lone_seat : {K : Type 0} (handed : HandedIn K) (seat : ℕ) (hand : QueueHand K) → get_elem? (empty_hand handed ∷ []) seat ≡ some hand → empty_hand handed ≡ hand
 lone_seat handed zero hand at = some-injective (empty_hand handed) hand at
 lone_seat handed (suc seat) hand at = absurd (some-ne-none hand (sym at))
 
 module _ {K W : Type 0} (state : K → WorkerState W) (deals : K → K → Type 0) where
   pub comes_allowed : (handed : HandedIn K) (slots q : ℕ)
-      → Enters (KeptSlots state deals handed) slots q (λ n hand. comes {K = K} (step slots q 0 0 none) (empty_hand handed, []) n (hand, []))
+      → Enters (KeptSlots state deals handed) slots q (λ n hand. comes_in {K = K} (step slots q 0 0 none) (empty_hand handed, []) n (hand, []))
   comes_allowed handed slots q s kept deep small = (
     empty_hand handed,
     record {
@@ -61,7 +61,7 @@ module _ {K W : Type 0} (state : K → WorkerState W) (deals : K → K → Type 
 
   -- what a picking up leaves, where the queue was in its slot or not
   abbrev Leaves : HandedIn K → ℕ → ℕ → SlotsNow K → Bool → Type 0
-  Leaves handed seat q s found = (hand : Hand K) × (act : Act (Option K)) × Valid s.homes [] act
+  Leaves handed seat q s found = (hand : QueueHand K) × (act : Act (Option K)) × Valid s.homes [] act
       × KeptSlots state deals handed (stepped s q (either found 1 (get_or s.words q 0)) seat [] hand act)
       × MatchBool found ((hand ≡ hand_with handed q) × (w : K) × (carried_after [] act ≡ (q, Some w) ∷ []) × IsHandedAt state deals handed q w)
       (◌≡◌ {A = SlotSat K} (hand, carried_after [] act) (empty_hand handed, []))
@@ -83,7 +83,7 @@ module _ {K W : Type 0} (state : K → WorkerState W) (deals : K → K → Type 
             (λ other. let old = kept.in_slot k low (sym (get_or-set_other s.words q k 1 0 (λ e. other (omega arith))) ∙ is_zero) in
             (old.0, set_else s.homes q k none other ∙ old.1, old.2));
         told = λ i hand at. elim (at_set s.views seat i (hand_with handed q) hand at) [
-          | inl mine ↦ ap (λ (h : Hand K). h.handed) (sym mine.1)
+          | inl mine ↦ ap (λ (h : QueueHand K). h.handed) (sym mine.1)
           | inr old ↦ kept.told i hand old.1
         ];
         in_hand = λ i hand at k has. elim (at_set s.views seat i (hand_with handed q) hand at) [
@@ -144,7 +144,7 @@ module _ {K W : Type 0} (state : K → WorkerState W) (deals : K → K → Type 
               (λ other. let old = kept.in_slot k low (sym (get_or-set_other s.words q k 0 0 (λ e. other (omega arith))) ∙ is_zero) in
               (old.0, set_else s.homes q k (some (Some w)) other ∙ old.1, old.2));
           told = λ i hand at'. elim (at_set s.views seat i (empty_hand mine) hand at') [
-            | inl own ↦ ap (λ (h : Hand K). h.handed) (sym own.1) ∙ mine_is
+            | inl own ↦ ap (λ (h : QueueHand K). h.handed) (sym own.1) ∙ mine_is
             | inr old ↦ kept.told i hand old.1
           ];
           in_hand = λ i hand at' k has. elim (at_set s.views seat i (empty_hand mine) hand at') [

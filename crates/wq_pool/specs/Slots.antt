@@ -4,24 +4,24 @@ use mathlib.Core.Option.{some}
 use lib.ListN.{get_elem?}
 use Rattle.atomic_table.specs.Table.{State, Me, Step}
 use Rattle.wq_worker.specs.State.{WorkerState}
-use Rattle.wq_pool.specs.declared.slots.Hand.{Hand}
+use Rattle.wq_pool.specs.declared.slots.QueueHand.{QueueHand}
 use Rattle.wq_pool.specs.declared.slots.HandedIn.{HandedIn}
 use Rattle.wq_turn.specs.declared.worker_id.WorkerId.{WorkerId}
 use Rattle.wq_pool.specs.Known.{id_of, GoesOnAt}
 
-abbrev pub empty_hand : {K : Type 0} → HandedIn K → Hand K
+abbrev pub empty_hand : {K : Type 0} → HandedIn K → QueueHand K
 empty_hand handed = record { queue = None; handed = handed }
 
-abbrev pub hand_with : {K : Type 0} → HandedIn K → ℕ → Hand K
+abbrev pub hand_with : {K : Type 0} → HandedIn K → ℕ → QueueHand K
 hand_with handed q = record { queue = Some q; handed = handed }
 
 -- what a seat is to the slots
 abbrev pub SlotSat : Type 0 → Type 0
-SlotSat K = Me (Option K) (Hand K)
+SlotSat K = Me (Option K) (QueueHand K)
 
 -- a new seat has nothing in hand
-abbrev pub comes : {K : Type 0} → Step (Option K) → SlotSat K → ℕ → SlotSat K → Type 0
-comes {K} step old found new = new.0 ≡ old.0
+abbrev pub comes_in : {K : Type 0} → Step (Option K) → SlotSat K → ℕ → SlotSat K → Type 0
+comes_in {K} step old found new = new.0 ≡ old.0
 
 abbrev pub lays_down : {K : Type 0} → Step (Option K) → SlotSat K → ℕ → SlotSat K → Type 0
 lays_down {K} step old found new = new ≡ (empty_hand old.0.handed, [])
@@ -44,14 +44,14 @@ module _ {K W : Type 0} (state : K → WorkerState W) (deals : K → K → Type 
 
   -- A word is 0 while its queue is in its slot. Then it is the worker that was handed in at this place; else one seat, the
   -- keeper, has it in hand.
-  pub record KeptSlots (handed : HandedIn K) (s : State (Option K) (Hand K)) : Type 0 where
+  pub record KeptSlots (handed : HandedIn K) (s : State (Option K) (QueueHand K)) : Type 0 where
     pub words_count : length s.words ≡ length handed.workers
     pub slots_count : length s.homes ≡ length handed.workers
     pub keeper : ℕ → ℕ
     pub in_slot : (q : ℕ) → q < length handed.workers → slice_index s.words q ≡ 0
         → (w : K) × (get_elem? s.homes q ≡ some (some (Some w))) × IsHandedAt handed q w
-    pub told : (seat : ℕ) (hand : Hand K) → get_elem? s.views seat ≡ some hand → hand.handed ≡ handed
-    pub in_hand : (seat : ℕ) (hand : Hand K) → get_elem? s.views seat ≡ some hand → (q : ℕ) → hand.queue ≡ Some q
+    pub told : (seat : ℕ) (hand : QueueHand K) → get_elem? s.views seat ≡ some hand → hand.handed ≡ handed
+    pub in_hand : (seat : ℕ) (hand : QueueHand K) → get_elem? s.views seat ≡ some hand → (q : ℕ) → hand.queue ≡ Some q
         → (q < length handed.workers) × (slice_index s.words q ≡ 1) × (keeper q ≡ seat)
 
   -- it has the queue of this word in hand, where the word was 0

@@ -2,7 +2,7 @@
 use Rattle.std.specs.Prelude.{◌≡◌, ℕ, ◌<◌, [], ◌∷◌, None, map, length}
 use Rattle.atomic_table.specs.Seated.{TableId}
 use Rattle.wq_worker.specs.State.{WorkerState}
-use Rattle.wq_pool.specs.declared.slots.Slots.TheInside as slots
+use Rattle.wq_pool.specs.declared.slots.QueueSlots.TheInside as slots
 use Rattle.wq_pool.specs.declared.turn.TurnOf.TheInside as turn
 use Rattle.wq_pool.specs.declared.turn.WorkedOf.TheInside as worked
 use Rattle.wq_pool.specs.Known.{SlotsState, TurnState, id_of}

@@ -6,7 +6,7 @@ ghost use Rattle.wq_pool.specs.Finish.{AreFirst, AreComplete, WereDrained, ComeF
 ghost use Rattle.wq_pool.specs.Finished.{AreFinishedBy, RanToEndBy, AreTakenApart, BeginAsHandedIn};
 
 use crate::pool::PoolOf;
-use crate::slots::Slots;
+use crate::slots::QueueSlots;
 use crate::turn::WorkedOf;
 use std::fmt;
 use thiserror::Error;
@@ -72,7 +72,11 @@ fn first_left(left: Option<(u32, u32)>, queue: u32, more: u32) -> Option<(u32, u
 }
 
 // Picks up each queue in turn, closes it, and executes up to so many of its numbers.
-fn gather<K: Station + Drop>(slots: &Slots<K>, mut all: Vec<WorkedOf<K>>, limit: u32) -> Gathered<K>
+fn gather<K: Station + Drop>(
+    slots: &QueueSlots<K>,
+    mut all: Vec<WorkedOf<K>>,
+    limit: u32,
+) -> Gathered<K>
     requires room { (all.items ≡ []) × (length slots.now.workers ≤ vec_capacity all) }
     ensures first { AreFirst K.state K.deals slots.now result.all.items }
     ensures all { IfNone result.out (length result.all.items ≡ length slots.now.workers) }

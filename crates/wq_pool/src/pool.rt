@@ -8,7 +8,7 @@ ghost use Rattle.wq_pool.specs.declared.pool.PoolError.TheVariants as pool_error
 ghost use Rattle.wq_pool.specs.Known.{queue_in_turn, id_of};
 ghost use Rattle.wq_pool.specs.Pool.{IsTurnOf, IsNoPool, GoesOnFrom, says_wakes};
 
-use crate::slots::Slots;
+use crate::slots::QueueSlots;
 use crate::turn::{TurnOf, WorkedOf};
 use std::alloc::Global;
 use std::marker::Model;
@@ -40,7 +40,7 @@ pub enum PoolError {
 /// None but `new` and `finish` takes memory, but that a `run` by two callers or more takes some for each further thread.
 #[derive(Drop)]
 pub struct PoolOf<K: Station> {
-    pub(crate) slots: Slots<K>,
+    pub(crate) slots: QueueSlots<K>,
     ready: ReadyQueue,
     // How many queues have run their stop item.
     stopped: AtomicU64,
@@ -88,7 +88,7 @@ impl<K: Station + Drop> PoolOf<K> {
             queues: count as u32,
             callers,
         };
-        let Ok(slots) = Slots::new(alloc, queues) else {
+        let Ok(slots) = QueueSlots::new(alloc, queues) else {
             return Err(PoolError::Memory);
         };
         let Ok((ready, all)) = ReadyQueue::new(alloc, size) else {

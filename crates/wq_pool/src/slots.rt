@@ -21,7 +21,7 @@ pub struct HandedIn<K> {
 }
 
 /// What a seat knows: the queue that it has in hand, and what was handed in. No value of it is made.
-pub struct Hand<K> {
+pub struct QueueHand<K> {
     /// The number of the queue in hand, if there is one.
     pub queue: Option<u64>,
     /// What was handed in.
@@ -34,7 +34,7 @@ pub type Handed<K> = Snapshot<Vec<ServedOf<K>>>;
 /// What is in a slot is the worker that was handed in at that place, which goes on from what it was then.
 pub struct Law;
 
-impl<K: Station> TableRule<Option<ServedOf<K>>, Hand<K>, Handed<K>> for Law {
+impl<K: Station> TableRule<Option<ServedOf<K>>, QueueHand<K>, Handed<K>> for Law {
     ghost use Rattle.wq_pool.specs.Slots.{KeptSlots, empty_hand, handed_of};
 
     ghost holds = { λ handed state. KeptSlots K.state K.deals (handed_of K.state handed.value.items) state };
@@ -43,23 +43,23 @@ impl<K: Station> TableRule<Option<ServedOf<K>>, Hand<K>, Handed<K>> for Law {
 }
 
 /// A seat at the slots.
-pub type SlotSeat<K> = Seat<Option<ServedOf<K>>, Hand<K>>;
+pub type SlotSeat<K> = Seat<Option<ServedOf<K>>, QueueHand<K>>;
 
-type SlotTable<K> = Table<Option<ServedOf<K>>, Hand<K>, Handed<K>, Law, Global>;
+type SlotTable<K> = Table<Option<ServedOf<K>>, QueueHand<K>, Handed<K>, Law, Global>;
 
 /// A new seat has nothing in hand.
-pub struct Comes;
+pub struct ComesIn;
 
-impl<K: Station> Play<Option<ServedOf<K>>, Hand<K>> for Comes {
-    ghost use Rattle.wq_pool.specs.Slots.{comes};
+impl<K: Station> Play<Option<ServedOf<K>>, QueueHand<K>> for ComesIn {
+    ghost use Rattle.wq_pool.specs.Slots.{comes_in};
 
-    ghost then = { comes };
+    ghost then = { comes_in };
 }
 
 /// A seat picks a queue up, where the queue is in its slot.
 pub struct PicksUp;
 
-impl<K: Station> Play<Option<ServedOf<K>>, Hand<K>> for PicksUp {
+impl<K: Station> Play<Option<ServedOf<K>>, QueueHand<K>> for PicksUp {
     ghost use Rattle.wq_pool.specs.Slots.{picks_up};
 
     ghost then = { picks_up K.state K.deals };
@@ -68,7 +68,7 @@ impl<K: Station> Play<Option<ServedOf<K>>, Hand<K>> for PicksUp {
 /// A seat lays down what it has in hand.
 pub struct LaysDown;
 
-impl<K: Station> Play<Option<ServedOf<K>>, Hand<K>> for LaysDown {
+impl<K: Station> Play<Option<ServedOf<K>>, QueueHand<K>> for LaysDown {
     ghost use Rattle.wq_pool.specs.Slots.{lays_down};
 
     ghost then = { lays_down };
@@ -76,12 +76,12 @@ impl<K: Station> Play<Option<ServedOf<K>>, Hand<K>> for LaysDown {
 
 /// The queues of a pool, each by its place. Threads share them by `&`.
 #[derive(Drop)]
-pub(crate) struct Slots<K: Station> {
+pub(crate) struct QueueSlots<K: Station> {
     table: SlotTable<K>,
     count: u32,
 }
 
-impl<K: Station> Model for Slots<K> {
+impl<K: Station> Model for QueueSlots<K> {
     ghost use Rattle.wq_pool.specs.Known.{SlotsState};
 
     ghost Value = { SlotsState K };
@@ -107,9 +107,9 @@ fn filled<K: Station + Drop>(
     Ok(slots)
 }
 
-impl<K: Station + Drop> Slots<K> {
+impl<K: Station + Drop> QueueSlots<K> {
     /// Each queue lies in the slot of its place.
-    pub(crate) fn new(alloc: Global, queues: Vec<ServedOf<K>>) -> Result<Slots<K>, AllocError>
+    pub(crate) fn new(alloc: Global, queues: Vec<ServedOf<K>>) -> Result<QueueSlots<K>, AllocError>
         requires { length queues.items < 2 ^ 32 }
         ensures workers { IfOk result (λ slots. slots.workers ≡ map (id_of K.state) queues.items) }
         ensures states { IfOk result (λ slots. slots.states ≡ queues.items) }
@@ -119,7 +119,7 @@ impl<K: Station + Drop> Slots<K> {
         let words = Vec::from_elem(alloc, 0u64, count)?;
         let slots = filled(alloc, queues)?;
         match Table::new(alloc, words.as_slice(), slots, &handed) {
-            Ok((table, _seat)) => Ok(Slots {
+            Ok((table, _seat)) => Ok(QueueSlots {
                 table,
                 count: count as u32,
             }),
@@ -145,7 +145,7 @@ impl<K: Station + Drop> Slots<K> {
     {
         let place = queue as usize;
         let slots = &self.table.shared;
-        let (_, mut seat) = slots.load_new_seat::<Comes>(place);
+        let (_, mut seat) = slots.load_new_seat::<ComesIn>(place);
         if slots.compare_exchange::<PicksUp>(&mut seat, place, 0, 1) != 0 {
             return None;
         }

@@ -41,7 +41,7 @@ pub use Rattle.wq_worker.proofs.Rows.{worker_still, worker_on, moves_same}
 pub use Rattle.wq_worker.proofs.State.{items_among-item, items_among-other, quiet_taking}
 pub use Rattle.wq_plan.specs.Plan.{IsLayoutOf}
 pub use Rattle.wq_plan.specs.declared.plan.Plan.{Plan}
-pub use Rattle.wq_race.specs.Outcome.{ledger_of, HasHeard, HasSettled, HasEnded, queueings, Tells, IsBookAfter, IsWhole, IsTold, HasMet, AllKnown}
+pub use Rattle.wq_race.specs.Outcome.{ledger_of, HasHeard, HasSettled, HasEnded, queueings, TellsOutcome, IsBookAfter, IsWhole, IsTold, HasMet, AllKnown}
 pub use Rattle.wq_race.specs.Outcome.{IsKnown, queued_sum}
 pub use Rattle.wq_race.specs.Race.{items_at, IsOfStop, HasRaced, HasQueued, tries_in_vain, HasStopped, IsStopAnswer, HasQueuedStop, HasServed, AllQueued}
 pub use Rattle.wq_race.specs.Race.{IsQueuer}

@@ -5,7 +5,7 @@ use Rattle.wq_race.proofs.Common.{IsPrefix, Layout, Event, Back, is_close, is_dr
 use Rattle.wq_race.proofs.Common.{closed_count, count_same, owner_seat, Why, RefusesFor, ended_same, Known, is_queued_by, is_chain, is_chain_busy}
 use Rattle.wq_race.proofs.Common.{sender_counts, owner_counts, LedgerState, BookState}
 use Rattle.wq_race.proofs.Common.{Unbalanced, AreWhole, AreOwnerWhole, ledgers_of, HasOne, IsUnbalanced, is_queued_below, below_more, below_all, WorkerState}
-use Rattle.wq_race.proofs.Common.{items_among, SendsAll, count_by-append, accepted-count, Idle, Plan, Team, items_at, IsOfStop, HasRaced, queueings, Tells}
+use Rattle.wq_race.proofs.Common.{items_among, SendsAll, count_by-append, accepted-count, Idle, Plan, Team, items_at, IsOfStop, HasRaced, queueings, TellsOutcome}
 use Rattle.wq_race.proofs.Common.{IsWhole, IsBookAfter, IsLedgerOf, HasMet, AllKnown, HasEnded, HasSettled, ledger_of, own_between, prefix_on}
 use Rattle.wq_race.proofs.Common.{IsComplete, count_by-le-length}
 use Rattle.wq_words.specs.declared.event.Why.TheVariants as why
@@ -262,7 +262,7 @@ module _ (plan : Plan) (team : Team) (w : WorkerState Idle) (senders : List Know
 
   pub tells : (outcome : Outcome) → IsWhole plan outcome
       → MatchBool outcome.is_balanced ((totals : Totals) × Balances last ledgers totals) ((fault : Unbalanced) × IsUnbalanced last ledgers fault)
-      → Tells plan team.worker last ledgers outcome
+      → TellsOutcome plan team.worker last ledgers outcome
   tells outcome whole balanced = record {
     history = book.seen;
     begins = prefix_on team.worker.seen w.seen book.seen o.met.begins o.ended.quiet.begins;

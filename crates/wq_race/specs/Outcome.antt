@@ -50,7 +50,7 @@ pub record IsBookAfter (worker : WorkerState Idle) (history : List Event) (book 
 -- many executions of items ended: barriers and the stop item are no items. The worker served until the stop item had ended, and
 -- the queue was closed after that. The book is that queue's, and made these ledgers: the outcome says that it balances just
 -- where each sender but the worker's has one of them and they balance with the book.
-pub record Tells (plan : Plan) (worker : WorkerState Idle) (book : BookState) (ledgers : List LedgerState) (outcome : Outcome) : Type 0 where
+pub record TellsOutcome (plan : Plan) (worker : WorkerState Idle) (book : BookState) (ledgers : List LedgerState) (outcome : Outcome) : Type 0 where
   pub history : List Event
   pub begins : IsPrefix worker.seen history
   pub legal : IsLegal worker.layout history
@@ -69,7 +69,7 @@ pub record TellsRace (plan : Plan) (outcome : Outcome) : Type 0 where
   pub book : BookState
   pub ledgers : List LedgerState
   pub sized : IsLayoutOf plan.senders plan.own worker.layout
-  pub tells : Tells plan worker book ledgers outcome
+  pub tells : TellsOutcome plan worker book ledgers outcome
 
 -- as many items were accepted as the plan has, and as many ran, and the outcome says that it balances
 pub record IsWhole (plan : Plan) (outcome : Outcome) : Type 0 where

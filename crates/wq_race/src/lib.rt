@@ -10,7 +10,7 @@ mod threads;
 pub use idle::Idle;
 pub use outcome::{Outcome, enter, enter_all, queued_by};
 pub use race::{
-    RaceError, Serves, Serving, queue_all, queue_item, queue_stop, run_plan, run_team, stop,
+    RaceError, ServesQueue, Serving, queue_all, queue_item, queue_stop, run_plan, run_team, stop,
 };
 pub use team::Team;
 pub use threads::join_wanted;

@@ -7,7 +7,7 @@ ghost use Rattle.wq_live.specs.Known.{Sees};
 ghost use Rattle.wq_ledger.specs.Book.{IsLedgerOf};
 ghost use Rattle.wq_ledger.specs.Balance.{Balances, IsUnbalanced};
 ghost use Rattle.wq_race.specs.Race.{HasRaced};
-ghost use Rattle.wq_race.specs.Outcome.{outcome_line, yes_or_no as said, Tells, IsWhole, HasMet, AllKnown, HasEnded};
+ghost use Rattle.wq_race.specs.Outcome.{outcome_line, yes_or_no as said, TellsOutcome, IsWhole, HasMet, AllKnown, HasEnded};
 ghost use Rattle.wq_race.specs.Outcome.{HasHeard, ledger_of, IsTold, queued_sum, HasSettled};
 
 use crate::idle::Idle;
@@ -197,7 +197,7 @@ impl Outcome {
     ) -> Result<(Outcome, Book, Vec<Ledger>), AllocError>
         requires run { (plan : Plan) × HasRaced plan team }
         ensures told { (plan : Plan) → HasRaced plan team
-            → IfOk result (λ told. IsWhole plan told.0 × Tells plan team.worker told.1 told.2.items told.0) }
+            → IfOk result (λ told. IsWhole plan told.0 × TellsOutcome plan team.worker told.1 told.2.items told.0) }
     {
         let ledgers = Vec::with_capacity(alloc, team.senders.len() + 1)?;
         let Team {

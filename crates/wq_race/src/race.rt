@@ -57,14 +57,14 @@ impl Promise<Sender> for QueuesOwn {
 
 /// A thread gives back the worker that it was given, which has served.
 #[derive(Drop)]
-pub struct Serves(Snapshot<Worker<Idle>>);
+pub struct ServesQueue(Snapshot<Worker<Idle>>);
 
-impl Promise<Worker<Idle>> for Serves {
+impl Promise<Worker<Idle>> for ServesQueue {
     ghost kept_by = { λ given back. HasServed given.0.value back };
 }
 
 /// The thread of the worker, where one could be made.
-pub type Serving = Option<PromisedHandle<Worker<Idle>, Serves>>;
+pub type Serving = Option<PromisedHandle<Worker<Idle>, ServesQueue>>;
 
 /// Queues an item, and wakes the worker where it is the first on an empty list: a worker that serves takes the rest with it.
 pub fn queue_item<R: Wait>(rt: &R, sender: &mut Sender, item: u32, unparker: &Unparker)
@@ -177,7 +177,7 @@ fn start_worker<'s, E, R: Wait + Sync>(
     requires idle { ¬ IsRunning worker.seen }
     ensures { IfSome result (λ handle. handle.promise.0.value ≡ worker) }
 {
-    let given = Serves(Snapshot::of(&worker));
+    let given = ServesQueue(Snapshot::of(&worker));
     scope
         .spawn_with(
             given,

@@ -7,7 +7,7 @@ use Rattle.wq_words.proofs.Growing.{growing, at_end, slice_get_last}
 use Rattle.wq_ready.proofs.Common.{◌≡◌, ℕ, zero, suc, ◌<◌, cond, eqb, ◌≢◌, List, [], ◌∷◌, ◌++◌, length, set, slice_get, Some, sym, refl, ap, ◌∙◌, subst, inl}
 use Rattle.wq_ready.proofs.Common.{inr, append_assoc, arith, length-append, length-set, eq-eqb, ne_eqb, prefix_self, prefix_append, Size, ReadyEvent, Announce}
 use Rattle.wq_ready.proofs.Common.{Pick, caller_of, announced, picked, IsReadyAllowed, IsReadyLegal, own_ready, ready_part, all_callers, no_caller, KeptReady}
-use Rattle.wq_ready.specs.declared.rule.Part.{Part}
+use Rattle.wq_ready.specs.declared.rule.PassPart.{PassPart}
 use Rattle.wq_ready.specs.Rule.{opening_part, one_caller, first_caller, later_callers, SpeaksFor, FitsReady, KeepsReady, Happens, announces, picks, CanWait}
 use Rattle.wq_ready.proofs.Legal.{legal_nil, legal_push, legal_none, announced_below}
 use Rattle.wq_ready.proofs.Seen.{own_else, grows_none, grows_one}
@@ -24,7 +24,7 @@ begins = (
     fit : FitsReady no_size [] (λ _. 0) 0 opening_part
     fit = record { size_is = refl; within = omega arith; begins = prefix_self []; keeps = λ _ _. refl; knows = λ _ _. refl }
 
-    each : (i : ℕ) (p : Part) → get_elem? (opening_part ∷ []) i ≡ some p → FitsReady no_size [] (λ _. 0) i p
+    each : (i : ℕ) (p : PassPart) → get_elem? (opening_part ∷ []) i ≡ some p → FitsReady no_size [] (λ _. 0) i p
     each zero p at = subst (FitsReady no_size [] (λ _. 0) 0) (some-injective opening_part p at) fit
     each (suc i) p at = absurd (some-ne-none p (sym at))
 
@@ -63,9 +63,9 @@ sizes id size some_queue waiting parts r at =
     lone = only parts id opening_part (k.lone unsized) at
 
     told : set parts id (all_callers size) ≡ all_callers size ∷ []
-    told = ap (λ (l : List Part). set l id (all_callers size)) lone.1 ∙ ap (λ (i : ℕ). set (opening_part ∷ []) i (all_callers size)) lone.0
+    told = ap (λ (l : List PassPart). set l id (all_callers size)) lone.1 ∙ ap (λ (i : ℕ). set (opening_part ∷ []) i (all_callers size)) lone.0
 
-    each : (i : ℕ) (p : Part) → get_elem? (all_callers size ∷ no_caller size ∷ []) i ≡ some p → FitsReady size [] (λ _. 0) i p
+    each : (i : ℕ) (p : PassPart) → get_elem? (all_callers size ∷ no_caller size ∷ []) i ≡ some p → FitsReady size [] (λ _. 0) i p
     each zero p there =
         subst (FitsReady size [] (λ _. 0) 0) (some-injective (all_callers size) p there)
         (record { size_is = refl; within = omega arith; begins = prefix_self []; keeps = λ _ _. refl; knows = λ _ _. refl })
@@ -81,7 +81,7 @@ sizes id size some_queue waiting parts r at =
     each (suc (suc i)) p there = absurd (some-ne-none p (sym there))
 
 -- the first caller of a pass gets a pass of its own
-pub parts_one : (id : ℕ) (p : Part) → 0 < p.size.queues → 0 < p.count → Forks KeptReady id p (later_callers p) (first_caller p)
+pub parts_one : (id : ℕ) (p : PassPart) → 0 < p.size.queues → 0 < p.count → Forks KeptReady id p (later_callers p) (first_caller p)
 parts_one id p some_queue some_left waiting parts r at = (
   r.0,
   record {
@@ -137,7 +137,7 @@ parts_one id p some_queue some_left waiting parts r at = (
       knows = λ c s. subst (λ d. own_ready d k.history ≡ own_ready d p.seen) (first_is c s) (mine.knows p.first spoke);
     }
 
-    other_fits : (j : ℕ) (q : Part) → j ≢ id → get_elem? parts j ≡ some q → FitsReady r.0 k.history keeper' j q
+    other_fits : (j : ℕ) (q : PassPart) → j ≢ id → get_elem? parts j ≡ some q → FitsReady r.0 k.history keeper' j q
     other_fits j q apart there = let old = k.fits j q there in record {
       size_is = old.size_is;
       within = old.within;
@@ -146,26 +146,26 @@ parts_one id p some_queue some_left waiting parts r at = (
       knows = old.knows;
     }
 
-    each : (j : ℕ) (q : Part) → get_elem? (set parts id (later_callers p) ++ first_caller p ∷ []) j ≡ some q → FitsReady r.0 k.history keeper' j q
+    each : (j : ℕ) (q : PassPart) → get_elem? (set parts id (later_callers p) ++ first_caller p ∷ []) j ≡ some q → FitsReady r.0 k.history keeper' j q
     each j q there = elim (at_end (set parts id (later_callers p)) (first_caller p) q j there) [
       | inl old ↦ elim (at_set parts id j (later_callers p) q old) [
-        | inl t ↦ subst (λ (z : ℕ × Part). FitsReady r.0 k.history keeper' z.0 z.1) (λ i. (sym t.0 i, t.1 i)) later_fits
+        | inl t ↦ subst (λ (z : ℕ × PassPart). FitsReady r.0 k.history keeper' z.0 z.1) (λ i. (sym t.0 i, t.1 i)) later_fits
         | inr t ↦ other_fits j q t.0 t.1
       ]
-      | inr t ↦ subst (λ (z : ℕ × Part). FitsReady r.0 k.history keeper' z.0 z.1)
+      | inr t ↦ subst (λ (z : ℕ × PassPart). FitsReady r.0 k.history keeper' z.0 z.1)
           (λ i. (sym (t.0 ∙ length-set parts id (later_callers p)) i, t.1 i)) first_fits
     ]
 
-pub parts_first : (id : ℕ) (size : Size) (first left : ℕ) (p : Part) → p ≡ ready_part size first left [] → 0 < size.queues → 0 < left
+pub parts_first : (id : ℕ) (size : Size) (first left : ℕ) (p : PassPart) → p ≡ ready_part size first left [] → 0 < size.queues → 0 < left
     → Forks KeptReady id p (later_callers p) (first_caller p)
 parts_first id size first left p is some_queue some_left =
     subst (λ q. Forks KeptReady id q (later_callers q) (first_caller q)) (sym is) (parts_one id (ready_part size first left []) some_queue some_left)
 
 -- an event of a caller that has a pass of its own, after which these wait
-happens : (size : Size) (waiting after : List ℕ) (parts : List Part) (k : KeepsReady size waiting parts) (id c : ℕ) (known : Size) (seen : List ReadyEvent)
+happens : (size : Size) (waiting after : List ℕ) (parts : List PassPart) (k : KeepsReady size waiting parts) (id c : ℕ) (known : Size) (seen : List ReadyEvent)
     → get_elem? parts id ≡ some (one_caller known c seen) → (e : ReadyEvent) → caller_of e ≡ c → IsReadyAllowed size k.history e
     → announced (k.history ++ e ∷ []) ≡ picked (k.history ++ e ∷ []) ++ after
-    → (new : Part) × KeptReady after (set parts id new) × Happens e (one_caller known c seen) new
+    → (new : PassPart) × KeptReady after (set parts id new) × Happens e (one_caller known c seen) new
 happens size waiting after parts k id c known seen at e is allowed waits = (now, (size, kept), told)
   where
     mine : FitsReady size k.history k.keeper id (one_caller known c seen)
@@ -177,7 +177,7 @@ happens size waiting after parts k id c known seen at e is allowed waits = (now,
     more : List ReadyEvent
     more = k.history ++ e ∷ []
 
-    now : Part
+    now : PassPart
     now = one_caller known c more
 
     legal : IsReadyLegal size more
@@ -187,7 +187,7 @@ happens size waiting after parts k id c known seen at e is allowed waits = (now,
     fits_now = record { size_is = mine.size_is; within = mine.within; begins = prefix_self more; keeps = mine.keeps; knows = λ _ _. refl }
 
     -- the event is of no caller that another pass speaks for
-    fits_still : (j : ℕ) (p : Part) → j ≢ id → get_elem? parts j ≡ some p → FitsReady size more k.keeper j p
+    fits_still : (j : ℕ) (p : PassPart) → j ≢ id → get_elem? parts j ≡ some p → FitsReady size more k.keeper j p
     fits_still j p apart there = let old = k.fits j p there in record {
       size_is = old.size_is;
       within = old.within;
@@ -197,9 +197,9 @@ happens size waiting after parts k id c known seen at e is allowed waits = (now,
           own_else d k.history e (λ same. apart (sym (old.keeps d s) ∙ (ap k.keeper (sym same ∙ is) ∙ here))) ∙ old.knows d s;
     }
 
-    each : (j : ℕ) (p : Part) → get_elem? (set parts id now) j ≡ some p → FitsReady size more k.keeper j p
+    each : (j : ℕ) (p : PassPart) → get_elem? (set parts id now) j ≡ some p → FitsReady size more k.keeper j p
     each j p there = elim (at_set parts id j now p there) [
-      | inl t ↦ subst (λ (z : ℕ × Part). FitsReady size more k.keeper z.0 z.1) (λ i. (sym t.0 i, t.1 i)) fits_now
+      | inl t ↦ subst (λ (z : ℕ × PassPart). FitsReady size more k.keeper z.0 z.1) (λ i. (sym t.0 i, t.1 i)) fits_now
       | inr t ↦ fits_still j p t.0 t.1
     ]
 
@@ -232,7 +232,7 @@ put room id c q known seen wide there waiting parts less r at =
     (record { has_caller = omega arith; has_queue = omega arith; follows = λ full. omega arith })
     (simp growing (ap (λ (l : List ℕ). l ++ q ∷ []) k.waits ∙ append_assoc (picked k.history) waiting (q ∷ [])))
 
-pub puts : (room id c q : ℕ) (p : Part) → p ≡ one_caller p.size c p.seen → room ≡ p.size.queues → q < p.size.queues
+pub puts : (room id c q : ℕ) (p : PassPart) → p ≡ one_caller p.size c p.seen → room ≡ p.size.queues → q < p.size.queues
     → Pushes KeptReady room id p q (announces p q)
 puts room id c q p is wide there =
     subst (λ w. Pushes KeptReady room id w q (announces w q)) (sym is) (put room id c q p.size p.seen wide there)
@@ -250,7 +250,7 @@ get id c known seen q waiting parts r at =
     (simp growing (k.waits ∙ sym (append_assoc (picked k.history) (q ∷ []) waiting))) in
     (step.0, step.1, (subst (λ (s : Size). q < s.queues) (sym fit.size_is) below, step.2))
 
-pub gets : (id c : ℕ) (p : Part) → p ≡ one_caller p.size c p.seen → Pops KeptReady id p (picks p)
+pub gets : (id c : ℕ) (p : PassPart) → p ≡ one_caller p.size c p.seen → Pops KeptReady id p (picks p)
 gets id c p is = subst (λ w. Pops KeptReady id w (picks w)) (sym is) (get id c p.size p.seen)
 
 learn : (id c : ℕ) (known : Size) (seen : List ReadyEvent) → Learns KeptReady id (one_caller known c seen) (CanWait (one_caller known c seen))
@@ -264,5 +264,5 @@ learn id c known seen waiting parts r at =
       waits = k.waits;
     }
 
-pub learns : (id c : ℕ) (p : Part) → p ≡ one_caller p.size c p.seen → Learns KeptReady id p (CanWait p)
+pub learns : (id c : ℕ) (p : PassPart) → p ≡ one_caller p.size c p.seen → Learns KeptReady id p (CanWait p)
 learns id c p is = subst (λ w. Learns KeptReady id w (CanWait w)) (sym is) (learn id c p.size p.seen)

@@ -3,14 +3,14 @@ ghost use Rattle.std.specs.Prelude.{◌≡◌, ◌<◌};
 ghost use Rattle.wq_ready.specs.Legal.{IsReadyLegal};
 ghost use Rattle.wq_ready.specs.Order.{KeepsOrder};
 
-use crate::rule::Part;
+use crate::rule::PassPart;
 use crossbeam_queue::Pass;
 use std::marker::Model;
 
 /// One who announces and picks. It may be moved to another thread.
 #[derive(Drop)]
 pub struct Caller {
-    pub(crate) pass: Pass<u32, Part>,
+    pub(crate) pass: Pass<u32, PassPart>,
     pub(crate) number: u32,
 }
 

@@ -7,7 +7,7 @@ ghost use Rattle.wq_ready.specs.Known.{IsCallerOf, new_callers};
 ghost use Rattle.wq_ready.specs.Answers.{Announces, Picks};
 
 use crate::caller::Caller;
-use crate::rule::{Announcing, HasSize, Numbers, Part, Parts, Picking, Sizes};
+use crate::rule::{Announcing, HasSize, Numbers, Parts, PassPart, Picking, Sizes};
 use crate::size::Size;
 use crossbeam_queue::Pass;
 use std::alloc::{AllocError, Global};
@@ -47,7 +47,7 @@ impl Model for ReadyQueue {
 }
 
 // Tells the first pass the size.
-fn tell_size<B: HasSize>(numbers: &Numbers, pass: &mut Pass<u32, Part>, size: Size)
+fn tell_size<B: HasSize>(numbers: &Numbers, pass: &mut Pass<u32, PassPart>, size: Size)
     requires size { (size ≡ B.size) × (0 < size.queues) }
     requires pass { IsPassOf numbers.now pass.old × (view pass.old ≡ opening_part) }
     ensures { IsPassOf numbers.now pass.new × (view pass.new ≡ all_callers size) }

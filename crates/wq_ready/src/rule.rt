@@ -8,7 +8,7 @@ use trail::GhostList;
 
 /// What a pass knows: the size, the callers that it speaks for, `count` of them from `first` on, and the history that it has
 /// seen. No value of it is made.
-pub struct Part {
+pub struct PassPart {
     pub size: Size,
     pub first: u64,
     pub count: u64,
@@ -18,7 +18,7 @@ pub struct Part {
 /// What waits and what the passes know belong to one history.
 pub struct Law;
 
-impl Protocol<u32, Part> for Law {
+impl Protocol<u32, PassPart> for Law {
     ghost use Rattle.wq_ready.specs.Rule.{KeptReady, opening_part};
 
     ghost holds = { KeptReady };
@@ -27,7 +27,7 @@ impl Protocol<u32, Part> for Law {
 }
 
 /// Numbers of queues, under that rule.
-pub type Numbers = RuledArrayQueue<u32, Part, Law>;
+pub type Numbers = RuledArrayQueue<u32, PassPart, Law>;
 
 /// A size that each call picks for itself, since a rule has no parameter that could carry it.
 pub trait HasSize {
@@ -45,7 +45,7 @@ pub struct Sizes<B> {
     marker: PhantomData<B>,
 }
 
-impl<B: HasSize> Split<Part> for Sizes<B> {
+impl<B: HasSize> Split<PassPart> for Sizes<B> {
     ghost use Rattle.wq_ready.specs.Rule.{all_callers, no_caller};
 
     ghost left = { λ ready_part. all_callers B.size };
@@ -56,7 +56,7 @@ impl<B: HasSize> Split<Part> for Sizes<B> {
 /// The first caller gets a pass of its own.
 pub struct Parts;
 
-impl Split<Part> for Parts {
+impl Split<PassPart> for Parts {
     ghost use Rattle.wq_ready.specs.Rule.{first_caller, later_callers};
 
     ghost left = { later_callers };
@@ -67,13 +67,13 @@ impl Split<Part> for Parts {
 /// The caller announces.
 pub struct Announcing;
 
-impl Outcome<u32, Part> for Announcing {
+impl Outcome<u32, PassPart> for Announcing {
     ghost use Rattle.wq_ready.specs.Rule.{announces};
 
     ghost then = { announces };
 }
 
-impl Lesson<u32, Part> for Announcing {
+impl Lesson<u32, PassPart> for Announcing {
     ghost use Rattle.wq_ready.specs.Rule.{CanWait};
 
     ghost fact = { CanWait };
@@ -82,13 +82,13 @@ impl Lesson<u32, Part> for Announcing {
 /// The caller picks.
 pub struct Picking;
 
-impl Outcome<u32, Part> for Picking {
+impl Outcome<u32, PassPart> for Picking {
     ghost use Rattle.wq_ready.specs.Rule.{picks};
 
     ghost then = { picks };
 }
 
-impl Lesson<u32, Part> for Picking {
+impl Lesson<u32, PassPart> for Picking {
     ghost use Rattle.wq_ready.specs.Rule.{CanWait};
 
     ghost fact = { CanWait };

@@ -9,7 +9,7 @@ pub use Rattle.std.specs.Option.{option_to_list}
 pub use Rattle.wq_words.proofs.Common.{cases_lt}
 pub use Rattle.wq_words.specs.declared.layout.Layout.{Layout}
 pub use Rattle.wq_check.specs.declared.cause.Cause.{Cause}
-pub use Rattle.wq_text.specs.declared.fault.Kind.{Kind}
+pub use Rattle.wq_text.specs.declared.fault.FaultKind.{FaultKind}
 pub use Rattle.wq_text.specs.declared.fault.ScriptError.{ScriptError}
 pub use Rattle.wq_text.specs.declared.header.Stage.{Stage}
 pub use Rattle.wq_text.specs.Line.{Grammar, Lines, line_gives}

@@ -1,8 +1,8 @@
 -- What stands behind the line that decides changes nothing.
 use Rattle.wq_recording.proofs.Common.{◌≡◌, ◌≢◌, ℕ, ◌+◌, ◌-◌, ◌<◌, List, [], ◌∷◌, ◌++◌, length, take, drop, get_or, Option, Some, None, Result, Ok, Err, refl, sym, ap, subst, ◌∙◌, arith}
-use Rattle.wq_recording.proofs.Common.{append_assoc, length-append, Kind, Stage, Lines, ScriptError, parts, short_line, Stop, Rules, Verdict, IsLineAt}
+use Rattle.wq_recording.proofs.Common.{append_assoc, length-append, FaultKind, Stage, Lines, ScriptError, parts, short_line, Stop, Rules, Verdict, IsLineAt}
 use Rattle.wq_recording.proofs.Common.{StopsWith, IsRefusedText, HasVerdict, HasFaultAt, same_Some, none-some}
-use Rattle.wq_text.specs.declared.fault.Kind.TheVariants as kind
+use Rattle.wq_text.specs.declared.fault.FaultKind.TheVariants as kind
 use Rattle.wq_recording.specs.Verdict.{deciding_line, IsTooLongAt}
 use Rattle.std.proofs.lemmas.List.{length-drop, take-append-drop, get_or-append-add}
 use Rattle.std.proofs.Math.Seq.{take-append_seam}
@@ -128,7 +128,7 @@ module _ {A E : Type 0} (inner : Lines A) (rules : Rules A E) (text other : List
   never_stops v stop x long =
       ok_is_no_err (sym x.given ∙ long_is inner x.reached x.line (long_line stop.line x.reached x.asked x.line x.behind x.at long))
 
-  size_is : (s : Stage) (line : List ℕ) (behind : List (List ℕ)) (k : Kind) → 4096 < length line
+  size_is : (s : Stage) (line : List ℕ) (behind : List (List ℕ)) (k : FaultKind) → 4096 < length line
       → HasFaultAt (short_line inner) rules text s line behind k → k ≡ kind.Size
   size_is s line [] k long fault = same_Some _ _ (sym fault ∙ last_long s line long)
   size_is s line (p ∷ ps) k long fault = same_err (sym fault ∙ long_is inner s line long)

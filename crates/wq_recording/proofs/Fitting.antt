@@ -1,10 +1,10 @@
 -- The rules of histories and of traces fit their lines.
 use Rattle.wq_recording.proofs.Common.{◌≡◌, ℕ, Bool, true, false, List, [], ◌∷◌, Option, Some, None, Result, Ok, Err, sym, ap}
-use Rattle.wq_recording.proofs.Common.{Layout, Kind, Stage, Grammar, line_gives, recording_line, none-some}
+use Rattle.wq_recording.proofs.Common.{Layout, FaultKind, Stage, Grammar, line_gives, recording_line, none-some}
 use Rattle.std.specs.Prelude.{if◌then◌else◌}
 use Rattle.std.specs.Str.{bytes_eq}
 use Rattle.wq_text.specs.declared.header.Stage.TheVariants as stage
-use Rattle.wq_text.specs.declared.fault.Kind.TheVariants as kind
+use Rattle.wq_text.specs.declared.fault.FaultKind.TheVariants as kind
 use Rattle.wq_text.specs.Fault.{◌>>=◌, need, found, of_none, of_one}
 use Rattle.wq_text.specs.Header.{is_header, header_line_gives, layout_at}
 use Rattle.wq_text.specs.Line.{plain_line_gives, words_give, by_words, asking_line, is_passed_over}
@@ -30,7 +30,7 @@ module _ {N A : Type 0} (g : Grammar N A) (s next : Stage) (a : A) where
   abbrev alone : Stage → Stage × Option A
   alone n = (n, None)
 
-  by_ask : (l : Layout) (r : Result A Kind) → of_one (asked l) r ≡ Ok (next, Some a) → IsWhole
+  by_ask : (l : Layout) (r : Result A FaultKind) → of_one (asked l) r ≡ Ok (next, Some a) → IsWhole
   by_ask l (Ok b) e = (l, ap (λ (p : Stage × Option A). p.0) (sym (same_ok e)))
   by_ask l (Err k) e = cc
 
@@ -45,7 +45,7 @@ module _ {N A : Type 0} (g : Grammar N A) (s next : Stage) (a : A) where
   by_name w ws None e = cc
   by_name w ws (Some name) e = by_layout name w ws (layout_at s) e
 
-  none_asked : (r : Result Stage Kind) → ◌≡◌ {A = Result (Stage × Option A) Kind} (of_one alone r) (Ok (next, Some a)) → ⊥
+  none_asked : (r : Result Stage FaultKind) → ◌≡◌ {A = Result (Stage × Option A) FaultKind} (of_one alone r) (Ok (next, Some a)) → ⊥
   none_asked (Ok n) e = absurd (none-some a (ap (λ (z : Stage × Option A). z.1) (same_ok e)))
   none_asked (Err k) e = cc
 
@@ -67,7 +67,7 @@ asks_line : {N A : Type 0} (g : Grammar N A) (s next : Stage) (a : A) (line : Li
     → (l : Layout) × (next ≡ stage.Commands l)
 asks_line {N} {A} g stage.Version next a line e = absurd (none (need kind.Version (bytes_eq line g.version)) e)
   where
-    none : (r : Result (Unit {0}) Kind) → ◌≡◌ {A = Result (Stage × Option A) Kind} (of_none (stage.Items, None) r) (Ok (next, Some a)) → ⊥
+    none : (r : Result (Unit {0}) FaultKind) → ◌≡◌ {A = Result (Stage × Option A) FaultKind} (of_none (stage.Items, None) r) (Ok (next, Some a)) → ⊥
     none (Ok n) e = none-some a (ap (λ (z : Stage × Option A). z.1) (same_ok e))
     none (Err k) e = cc
 asks_line g stage.Items next a line e = asks_plain g stage.Items next a line (is_passed_over line) e

@@ -3,7 +3,7 @@ use Rattle.wq_recording.proofs.Common.{◌≡◌, ℕ, ◌<◌, ◌≤◌, false
 use Rattle.wq_recording.proofs.Common.{last_fault, end_fault}
 use Rattle.std.proofs.Common.{if◌then◌else◌, ◌==◌}
 use Rattle.std.proofs.lemmas.Bool.{eqb-false, le-leb, lt-leb}
-use Rattle.wq_text.specs.declared.fault.Kind.TheVariants as kind
+use Rattle.wq_text.specs.declared.fault.FaultKind.TheVariants as kind
 use Rattle.wq_text.specs.declared.fault.ParseError.{ParseError}
 use Rattle.wq_text.specs.Fault.{RefusedFor}
 

@@ -1,6 +1,6 @@
 -- What was read of a recording, line by line, and what follows of its text.
 use Rattle.wq_recording.proofs.Common.{◌≡◌, ◌≢◌, ℕ, ◌+◌, ◌<◌, ◌≤◌, ◌⊎◌, List, [], ◌∷◌, ◌++◌, length, Option, Some, None, IfSome, Result, Ok, Err}
-use Rattle.wq_recording.proofs.Common.{refl, sym, ap, subst, ◌∙◌, inl, inr, arith, flat_map, option_to_list, append_assoc, append-nil, length-append, Layout, Kind}
+use Rattle.wq_recording.proofs.Common.{refl, sym, ap, subst, ◌∙◌, inl, inr, arith, flat_map, option_to_list, append_assoc, append-nil, length-append, Layout, FaultKind}
 use Rattle.wq_recording.proofs.Common.{ScriptError, Stage, Lines, layout_at, parts, Stop, Rules, IsLineAt, IsRefusedText}
 use Rattle.wq_recording.proofs.Common.{HasFaultAt, last_fault, short_line, StopsAmong, HasTold, IsMadeAt, TellsAll, ComesTo}
 use Rattle.std.proofs.Common.{◌==◌}
@@ -14,7 +14,7 @@ use Rattle.wq_text.specs.declared.fault.LineError.TheVariants as line_errors
 use Rattle.wq_recording.specs.Judging.{refusal_of}
 use Rattle.wq_text.specs.declared.fault.ParseError.{ParseError}
 use Rattle.wq_text.specs.declared.fault.ParseError.TheVariants as parse_errors
-use Rattle.wq_text.specs.declared.fault.Kind.TheVariants as kind
+use Rattle.wq_text.specs.declared.fault.FaultKind.TheVariants as kind
 use Rattle.wq_text.specs.declared.header.Stage.TheVariants as stage
 use Rattle.wq_recording.specs.declared.finding.Finding.{Finding}
 use Rattle.wq_recording.specs.declared.judging.LineOutcome.TheVariants.{Stop as OutcomeStop}
@@ -32,10 +32,10 @@ module _ {A : Type 0} (inner : Lines A) where
   pub long_is : (s : Stage) (line : List ℕ) → 4096 < length line → short_line inner s line ≡ Err kind.Size
   long_is s line lt = ap (λ b. need kind.Size b >>= λ _. inner s line) (lt-leb (length line) 4096 lt)
 
-pub too_long : {A E : Type 0} (inner : Lines A) (rules : Rules A E) (text : List ℕ) (s : Stage) (part : List ℕ) (more : List (List ℕ)) (k : Kind)
+pub too_long : {A E : Type 0} (inner : Lines A) (rules : Rules A E) (text : List ℕ) (s : Stage) (part : List ℕ) (more : List (List ℕ)) (k : FaultKind)
     → 4096 < length part → k ≡ kind.Size → HasFaultAt (short_line inner) rules text s part more k
-too_long inner rules text s part [] k long is = last_long s part long ∙ ap (λ (j : Kind). Some j) (sym is)
-too_long inner rules text s part (p ∷ ps) k long is = long_is inner s part long ∙ ap (λ (j : Kind). Err j) (sym is)
+too_long inner rules text s part [] k long is = last_long s part long ∙ ap (λ (j : FaultKind). Some j) (sym is)
+too_long inner rules text s part (p ∷ ps) k long is = long_is inner s part long ∙ ap (λ (j : FaultKind). Err j) (sym is)
 
 -- bytes have a last part
 pub some_part : (bytes : List ℕ) → parts bytes ≢ []
@@ -170,7 +170,7 @@ module _ {A E C : Type 0} (inner : Lines A) (rules : Rules A E) (layout_of : C �
             fault = fault;
           }
 
-      followed : (part : List ℕ) (more : List (List ℕ)) (k : Kind) → more ≢ [] → short_line inner s part ≡ Err k
+      followed : (part : List ℕ) (more : List (List ℕ)) (k : FaultKind) → more ≢ [] → short_line inner s part ≡ Err k
           → HasFaultAt (short_line inner) rules text s part more k
       followed part [] k some given = absurd (some refl)
       followed part (p ∷ ps) k some given = given
@@ -186,7 +186,7 @@ module _ {A E C : Type 0} (inner : Lines A) (rules : Rules A E) (layout_of : C �
         refused_rest : (e : ScriptError) → e.line ≡ n → last_fault s line ≡ Some e.kind → IsRefusedText (short_line inner) rules text e
         refused_rest e here fault = by_end (ends bare)
           where
-            same : {j k : Kind} → Some j ≡ Some k → k ≡ j
+            same : {j k : FaultKind} → Some j ≡ Some k → k ≡ j
             same e = cc
 
             by_end : (4096 < length line) ⊎ (r.behind ≡ []) → IsRefusedText (short_line inner) rules text e
@@ -279,7 +279,7 @@ refused_if None P Q e fault all = tt
 refused_if (Some text) P Q parse_errors.Memory fault all = tt
 refused_if (Some text) P Q (parse_errors.Refused x) fault all = all x fault
 
-pub refused_by_line : (n : ℕ) {Y : Type 0} (e : LineError) (r : Result Y Kind) (Q : ScriptError → Type 0) → LineFailsAs e r
+pub refused_by_line : (n : ℕ) {Y : Type 0} (e : LineError) (r : Result Y FaultKind) (Q : ScriptError → Type 0) → LineFailsAs e r
     → ((x : ScriptError) → x.line ≡ n → r ≡ Err x.kind → Q x) → RefusedFor (refusal_of n e) Q
 refused_by_line n line_errors.Memory r Q fails all = tt
 refused_by_line n (line_errors.Fault k) r Q fails all = all (record { line = n; kind = k }) refl fails

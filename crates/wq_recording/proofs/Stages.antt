@@ -1,10 +1,10 @@
 -- What a line does to the stage.
 use Rattle.wq_recording.proofs.Common.{◌≡◌, ℕ, Bool, true, false, List, [], ◌∷◌, Option, Some, None, IfSome, Result, Ok, Err, refl, sym, ap, subst}
-use Rattle.wq_recording.proofs.Common.{Layout, Kind, Stage, Grammar, line_gives, IsMadeAt}
+use Rattle.wq_recording.proofs.Common.{Layout, FaultKind, Stage, Grammar, line_gives, IsMadeAt}
 use Rattle.std.proofs.lemmas.List.Elements.{All-nil, All-head}
 use Rattle.wq_words.proofs.Cases.{same_ok}
 use Rattle.wq_text.specs.declared.header.Stage.TheVariants as stage
-use Rattle.wq_text.specs.declared.fault.Kind.TheVariants as kind
+use Rattle.wq_text.specs.declared.fault.FaultKind.TheVariants as kind
 use Rattle.wq_text.specs.Fault.{◌>>=◌, need, found, of_one}
 use Rattle.wq_text.specs.Header.{awaits, is_header, header_line_gives}
 use Rattle.wq_text.specs.Line.{plain_line_gives, words_give, by_words, asking_line, is_passed_over}
@@ -13,7 +13,7 @@ use Rattle.wq_text.specs.Word.{words}
 use Rattle.std.specs.Prelude.{if◌then◌else◌}
 
 -- where a need and what stands behind it give a value, what stands behind it gives that
-pub ok_behind_need : {B : Type 0} (k : Kind) (b : Bool) (r : Result B Kind) (x : B) → (need k b >>= λ _. r) ≡ Ok x → r ≡ Ok x
+pub ok_behind_need : {B : Type 0} (k : FaultKind) (b : Bool) (r : Result B FaultKind) (x : B) → (need k b >>= λ _. r) ≡ Ok x → r ≡ Ok x
 ok_behind_need k true r x e = e
 ok_behind_need k false r x e = cc
 
@@ -25,7 +25,7 @@ module _ {N A : Type 0} (g : Grammar N A) (l : Layout) (next : Stage) (one : Opt
       asked : A → Stage × Option A
       asked a = (stage.Commands l, Some a)
 
-      by_ask : (r : Result A Kind) → of_one asked r ≡ Ok (next, one) → next ≡ stage.Commands l
+      by_ask : (r : Result A FaultKind) → of_one asked r ≡ Ok (next, one) → next ≡ stage.Commands l
       by_ask (Ok a) e = ap (λ (p : Stage × Option A). p.0) (sym (same_ok e))
       by_ask (Err k) e = cc
 

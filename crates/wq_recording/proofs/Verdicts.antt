@@ -1,6 +1,6 @@
 -- A text has one verdict at most.
 use Rattle.wq_recording.proofs.Common.{◌≡◌, ◌≢◌, ℕ, ◌+◌, List, [], ◌∷◌, ◌++◌, length, Option, Some, None, Result, Ok, Err, refl, sym, ap, subst, ◌∙◌}
-use Rattle.wq_recording.proofs.Common.{inl, inr, flat_map, option_to_list, append_assoc, append-nil, Layout, Cause, Kind, ScriptError, Stage, Lines}
+use Rattle.wq_recording.proofs.Common.{inl, inr, flat_map, option_to_list, append_assoc, append-nil, Layout, Cause, FaultKind, ScriptError, Stage, Lines}
 use Rattle.wq_recording.proofs.Common.{LinesLead, layout_at, Stop, Rules, Verdict, IsLineAt, IsLegalText, StopsWith, IsRefusedText, HasVerdict}
 use Rattle.wq_recording.proofs.Common.{HasFaultAt, same_Some}
 use Rattle.wq_recording.proofs.Leading.{same_lead, LeadsThrough, through, stays_through}
@@ -187,7 +187,7 @@ module _ {A E : Type 0} (gives : Lines A) (rules : Rules A E) (fit : AreFit give
           absurd (stop_passed m k end y s.more x.reached x.asked x.first (led x.reached x.asked x.at.before _ s.before x.at.leads) (legal_of_stop l h stop x))
 
   -- a line with others behind it that has a fault gives nothing
-  faulty_line : (s : Stage) (line : List ℕ) (behind : List (List ℕ)) (kind : Kind) → behind ≢ [] → HasFaultAt gives rules text s line behind kind
+  faulty_line : (s : Stage) (line : List ℕ) (behind : List (List ℕ)) (kind : FaultKind) → behind ≢ [] → HasFaultAt gives rules text s line behind kind
       → gives s line ≡ Err kind
   faulty_line s line [] kind ended fault = absurd (ended refl)
   faulty_line s line (next ∷ more) kind ended fault = fault
@@ -206,7 +206,7 @@ module _ {A E : Type 0} (gives : Lines A) (rules : Rules A E) (fit : AreFit give
           fault_passed e y s.more x.reached x.asked (λ none. none_cons s.more x.line x.behind (sym s.after ∙ none))
           (led x.reached x.asked x.at.before _ s.before x.at.leads)
 
-  fault_once : (s : Stage) (line : List ℕ) (behind : List (List ℕ)) (k j : Kind) → HasFaultAt gives rules text s line behind k
+  fault_once : (s : Stage) (line : List ℕ) (behind : List (List ℕ)) (k j : FaultKind) → HasFaultAt gives rules text s line behind k
       → HasFaultAt gives rules text s line behind j → k ≡ j
   fault_once s line (next ∷ more) k j fault too = same_err (sym fault ∙ too)
   fault_once s line [] k j fault too = same_Some _ _ (sym fault ∙ too)

@@ -1,6 +1,6 @@
 -- The line of an event, read back.
 use Rattle.wq_recording.proofs.Common.{◌≡◌, ℕ, ◌-◌, ◌<◌, ◌≤◌, Bool, true, false, List, [], ◌∷◌, ◌++◌, length, Option, Some, None, Result, Ok, refl, sym, ap, subst, ◌∙◌}
-use Rattle.wq_recording.proofs.Common.{arith, nat_le, nat_lt, append_assoc, Layout, Kind, Stage}
+use Rattle.wq_recording.proofs.Common.{arith, nat_le, nat_lt, append_assoc, Layout, FaultKind, Stage}
 use Rattle.std.specs.Prelude.{◌&&◌, codes, if◌then◌else◌, option_map}
 use Rattle.std.specs.Fmt.{decimal}
 use Rattle.std.specs.Str.{all_ascii_digits, bytes_eq}
@@ -15,7 +15,7 @@ use Rattle.wq_words.specs.Numbers.{number_count, stop_number, barrier_number}
 use Rattle.wq_meaning.specs.Names.{name_of, named}
 use Rattle.wq_meaning.specs.Replies.{why_text}
 use Rattle.wq_text.proofs.Decimal.{reads_decimals}
-use Rattle.wq_text.specs.declared.fault.Kind.TheVariants as kind
+use Rattle.wq_text.specs.declared.fault.FaultKind.TheVariants as kind
 use Rattle.wq_text.specs.declared.header.Stage.TheVariants as stage
 use Rattle.wq_text.specs.Arguments.{below, between, item}
 use Rattle.wq_text.specs.Fault.{◌>>=◌, need, found, of_one, of_two}
@@ -41,13 +41,13 @@ no_digits n w small none =
     false_from_ne_true (bytes_eq (decimal n) w)
     (λ same. true≢false (sym (all_digits n small) ∙ ap all_ascii_digits ((bytes_eq-Decides (decimal n) w).0 same) ∙ none))
 
-below_reads : (k : Kind) (bound n : ℕ) → n < bound → bound < 1000000 → below k bound (decimal n) ≡ Ok n
+below_reads : (k : FaultKind) (bound n : ℕ) → n < bound → bound < 1000000 → below k bound (decimal n) ≡ Ok n
 unfolding below
 below_reads k bound n lt small =
     ap (λ (o : Option ℕ). found kind.Number o >>= λ m. need k (nat_lt m bound) >>= λ _. Ok m) (spelled n (omega (arith, lt, small)))
     ∙ ap (λ b. need k b >>= λ _. Ok n) (lt-ltb n bound lt)
 
-pub between_reads : (k : Kind) (low high n : ℕ) → low ≤ n → n ≤ high → high < 1000000 → between k low high (decimal n) ≡ Ok n
+pub between_reads : (k : FaultKind) (low high n : ℕ) → low ≤ n → n ≤ high → high < 1000000 → between k low high (decimal n) ≡ Ok n
 unfolding between
 between_reads k low high n above le small =
     ap (λ (o : Option ℕ). found kind.Number o >>= λ m. need k (nat_le low m && nat_le m high) >>= λ _. Ok m) (spelled n (omega (arith, le, small)))
@@ -116,14 +116,14 @@ abbrev pub IsWritten : Stage → Stage → Option LineEvents → List ℕ → Ty
 IsWritten s next one t = HasNoLf t × (history_line s t ≡ Ok (next, one))
 
 module _ (l : Layout) where
-  abbrev Tells : List ℕ → Event → Type 0
-  Tells t e = IsWritten (stage.Commands l) (stage.Commands l) (Some (alone e)) t
+  abbrev IsLineOf : List ℕ → Event → Type 0
+  IsLineOf t e = IsWritten (stage.Commands l) (stage.Commands l) (Some (alone e)) t
 
   abbrev asked : LineEvents → Stage × Option LineEvents
   asked one = (stage.Commands l, Some one)
 
   line_tells : (w : List ℕ) (ws : List (List ℕ)) (t : HistoryWord) (e : Event) → IsShortWord w → AreShortWords ws → length ws ≤ 3
-      → is_header w ≡ false → history_word_at w ws ≡ Some t → events_given l t w (without_first ws) ≡ Ok (alone e) → Tells (spaced w ws) e
+      → is_header w ≡ false → history_word_at w ws ≡ Some t → events_given l t w (without_first ws) ≡ Ok (alone e) → IsLineOf (spaced w ws) e
   line_tells w ws t e short all few first name gives = (
     spaced_no_lf w ws short all,
     spaced_line w ws short all history_grammar (stage.Commands l) few refl
@@ -135,7 +135,7 @@ module _ (l : Layout) where
   )
 
   owner_tells : (ws : List (List ℕ)) (t : HistoryWord) (e : Event) → AreShortWords ws → length ws ≤ 3
-      → history_word_at (codes "o") ws ≡ Some t → events_given l t (codes "o") (without_first ws) ≡ Ok (alone e) → Tells (spaced (codes "o") ws) e
+      → history_word_at (codes "o") ws ≡ Some t → events_given l t (codes "o") (without_first ws) ≡ Ok (alone e) → IsLineOf (spaced (codes "o") ws) e
   owner_tells ws t e all few name gives = line_tells (codes "o") ws t e (literal (codes "o") refl) all few refl name gives
 
   module _ (s k : ℕ) (seat : s < l.senders) (lt : k < number_count l) where
@@ -144,9 +144,9 @@ module _ (l : Layout) where
 
     seat_read : seat_and_number l (decimal s) (name_of l k ∷ []) ≡ Ok (s, k)
     seat_read =
-        ap (λ (r : Result ℕ Kind). r >>= λ n. number_of_queue l (name_of l k) >>= λ m. Ok (n, m))
+        ap (λ (r : Result ℕ FaultKind). r >>= λ n. number_of_queue l (name_of l k) >>= λ m. Ok (n, m))
         (below_reads kind.Sender l.senders s seat (omega (arith, l.in_limits.2.1)))
-        ∙ ap (λ (r : Result ℕ Kind). r >>= λ m. Ok (s, m)) (named_number l k lt).1
+        ∙ ap (λ (r : Result ℕ FaultKind). r >>= λ m. Ok (s, m)) (named_number l k lt).1
 
     not_header : is_header (decimal s) ≡ false
     not_header = rw (no_digits s (codes "items") small refl, no_digits s (codes "senders") small refl, no_digits s (codes "barriers") small refl) refl
@@ -155,7 +155,7 @@ module _ (l : Layout) where
         → history_word_at (decimal s) ws
         ≡ (if bytes_eq (decimal s) (codes "o") then owners_word (nth_word 0 ws) else senders_word (nth_word 0 ws) (nth_word (length ws - 1) ws))
         → senders_word (nth_word 0 ws) (nth_word (length ws - 1) ws) ≡ Some t → events_given l t (decimal s) (without_first ws) ≡ Ok (alone e)
-        → Tells (spaced (decimal s) ws) e
+        → IsLineOf (spaced (decimal s) ws) e
     sender_tells ws t e all few by_first told gives =
         line_tells (decimal s) ws t e (decimal_word s small) all few not_header
         (by_first
@@ -165,27 +165,27 @@ module _ (l : Layout) where
 
     -- a line of three words, and of four
     three_tell : (word : List ℕ) (t : HistoryWord) (e : Event) → IsShortWord word → senders_word word (name_of l k) ≡ Some t
-        → events_given l t (decimal s) (name_of l k ∷ []) ≡ Ok (alone e) → Tells (sender_text l s (32 ∷ word) k) e
+        → events_given l t (decimal s) (name_of l k ∷ []) ≡ Ok (alone e) → IsLineOf (sender_text l s (32 ∷ word) k) e
     three_tell word t e short told gives =
-        let P : List ℕ → Type 0 = λ t. Tells t e in
+        let P : List ℕ → Type 0 = λ t. IsLineOf t e in
         subst P (sym (append_assoc (decimal s) (32 ∷ word) (named l k)))
         (sender_tells (word ∷ name_of l k ∷ []) t e (short, ((named_number l k lt).0, tt)) (omega arith) refl told gives)
 
     back_tells : (cause : Why) (word : List ℕ) → IsShortWord word → why_at word ≡ Some cause → why_text cause ≡ 32 ∷ word
-        → Tells (event_text l (event.Back s k cause)) (event.Back s k cause)
+        → IsLineOf (event_text l (event.Back s k cause)) (event.Back s k cause)
     unfolding senders_word numbers_give line_events_of
     back_tells cause word short told written =
         let tells = sender_tells (codes "back" ∷ name_of l k ∷ word ∷ []) (history_word.Back cause) (event.Back s k cause)
         (literal (codes "back") refl, ((named_number l k lt).0, (short, tt))) (omega arith) refl (ap (option_map history_word.Back) told)
         (ap (of_two (λ s k. alone (event.Back s k cause))) seat_read) in
         let front = codes " back" ++ named l k in
-        let P : List ℕ → Type 0 = λ t. Tells t (event.Back s k cause) in
+        let P : List ℕ → Type 0 = λ t. IsLineOf t (event.Back s k cause) in
         let text =
         ap (λ t. t ++ why_text cause) (append_assoc (decimal s) (codes " back") (named l k))
         ∙ append_assoc (decimal s) front (why_text cause) ∙ ap (λ t. decimal s ++ (front ++ t)) written in
         subst P (sym text) tells
 
-pub written_event : (l : Layout) (e : Event) → IsEventOf l e → Tells l (event_text l e) e
+pub written_event : (l : Layout) (e : Event) → IsEventOf l e → IsLineOf l (event_text l e) e
 unfolding owners_word senders_word numbers_give line_events_of why_at cause_at
 written_event l (event.Hold s k) is =
     three_tell l s k is.0 is.1 (codes "hold") history_word.Hold (event.Hold s k) (literal (codes "hold") refl) refl

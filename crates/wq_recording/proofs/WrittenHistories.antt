@@ -1,6 +1,6 @@
 -- The text of a history, read back.
 use Rattle.wq_recording.proofs.Common.{◌≡◌, ℕ, ◌+◌, Bool, false, List, [], ◌∷◌, ◌++◌, map, All, Option, Some, None, Result, Ok, Err, refl, sym, ap, subst, ◌∙◌}
-use Rattle.wq_recording.proofs.Common.{arith, flat_map, option_to_list, append_assoc, append-nil, Layout, Kind, ScriptError, Stage, parts, Verdict, IsLineAt}
+use Rattle.wq_recording.proofs.Common.{arith, flat_map, option_to_list, append_assoc, append-nil, Layout, FaultKind, ScriptError, Stage, parts, Verdict, IsLineAt}
 use Rattle.std.specs.Prelude.{codes, MatchBool}
 use Rattle.std.specs.Fmt.{decimal}
 use Rattle.std.proofs.lemmas.List.Elements.{All-nil, All-cons, All-head, All-tail, All-append}
@@ -11,7 +11,7 @@ use Rattle.wq_words.proofs.Legal.{legal_induction}
 use Rattle.wq_meaning.specs.Report.{line, count_line}
 use Rattle.wq_text.proofs.Limited.{limited_ok}
 use Rattle.wq_text.proofs.Texts.{IsReadTo, read_nothing, read_more}
-use Rattle.wq_text.specs.declared.fault.Kind.TheVariants as kind
+use Rattle.wq_text.specs.declared.fault.FaultKind.TheVariants as kind
 use Rattle.wq_text.specs.declared.header.Stage.TheVariants as stage
 use Rattle.wq_text.specs.Fault.{◌>>=◌, of_one}
 use Rattle.wq_text.specs.Header.{awaits, behind_items, header_gives, limited}
@@ -55,9 +55,9 @@ module _ (l : Layout) where
       let number = decimal_word l.items (omega (arith, l.in_limits.0.1)) in (
         spaced_no_lf (codes "items") (decimal l.items ∷ []) word (number, tt),
         spaced_line (codes "items") (decimal l.items ∷ []) word (number, tt) history_grammar stage.Items (omega arith) refl
-            ∙ ap (λ (r : Result ℕ Kind). of_one alone_stage (r >>= λ n. of_one stage.Senders (limited kind.Items n 1 1)))
+            ∙ ap (λ (r : Result ℕ FaultKind). of_one alone_stage (r >>= λ n. of_one stage.Senders (limited kind.Items n 1 1)))
             (between_reads kind.Items 1 65536 l.items l.in_limits.0.0 l.in_limits.0.1 (omega arith))
-            ∙ ap (λ (r : Result Layout Kind). of_one alone_stage (of_one stage.Senders r)) (limited_ok kind.Items l_items l.items 1 1 refl refl refl),
+            ∙ ap (λ (r : Result Layout FaultKind). of_one alone_stage (of_one stage.Senders r)) (limited_ok kind.Items l_items l.items 1 1 refl refl refl),
       )
 
   senders_line : IsWritten (stage.Senders l_items) (stage.Barriers l_senders) None (counted (codes "senders") l.senders)
@@ -67,9 +67,9 @@ module _ (l : Layout) where
       let number = decimal_word l.senders (omega (arith, l.in_limits.2.1)) in (
         spaced_no_lf (codes "senders") (decimal l.senders ∷ []) word (number, tt),
         spaced_line (codes "senders") (decimal l.senders ∷ []) word (number, tt) history_grammar (stage.Senders l_items) (omega arith) refl
-            ∙ ap (λ (r : Result ℕ Kind). of_one alone_stage (of_one stage.Barriers (r >>= λ n. limited kind.Senders l.items 1 n)))
+            ∙ ap (λ (r : Result ℕ FaultKind). of_one alone_stage (of_one stage.Barriers (r >>= λ n. limited kind.Senders l.items 1 n)))
             (between_reads kind.Senders 1 64 l.senders l.in_limits.2.0 l.in_limits.2.1 (omega arith))
-            ∙ ap (λ (r : Result Layout Kind). of_one alone_stage (of_one stage.Barriers r))
+            ∙ ap (λ (r : Result Layout FaultKind). of_one alone_stage (of_one stage.Barriers r))
             (limited_ok kind.Senders l_senders l.items 1 l.senders refl refl refl),
       )
 
@@ -80,9 +80,9 @@ module _ (l : Layout) where
       let number = decimal_word l.barriers (omega (arith, l.in_limits.1.1)) in (
         spaced_no_lf (codes "barriers") (decimal l.barriers ∷ []) word (number, tt),
         spaced_line (codes "barriers") (decimal l.barriers ∷ []) word (number, tt) history_grammar (stage.Barriers l_senders) (omega arith) refl
-            ∙ ap (λ (r : Result ℕ Kind). of_one alone_stage (of_one stage.Commands (r >>= λ n. limited kind.Barriers l.items n l.senders)))
+            ∙ ap (λ (r : Result ℕ FaultKind). of_one alone_stage (of_one stage.Commands (r >>= λ n. limited kind.Barriers l.items n l.senders)))
             (between_reads kind.Barriers 1 16 l.barriers l.in_limits.1.0 l.in_limits.1.1 (omega arith))
-            ∙ ap (λ (r : Result Layout Kind). of_one alone_stage (of_one stage.Commands r))
+            ∙ ap (λ (r : Result Layout FaultKind). of_one alone_stage (of_one stage.Commands r))
             (limited_ok kind.Barriers l l.items l.barriers l.senders refl refl refl),
       )
 

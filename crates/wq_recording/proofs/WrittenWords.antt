@@ -12,7 +12,7 @@ use Rattle.std.proofs.lemmas.List.Folds.{list_all-append}
 use Rattle.std.proofs.lemmas.List.Sums.{AllPass-from_list_all}
 use Rattle.std.proofs.lemmas.List.Splits.{slice_split_none, slice_split_at}
 use Rattle.wq_text.proofs.Words.{own}
-use Rattle.wq_text.specs.declared.fault.Kind.TheVariants as kind
+use Rattle.wq_text.specs.declared.fault.FaultKind.TheVariants as kind
 use Rattle.wq_text.specs.Fault.{◌>>=◌, need}
 use Rattle.wq_text.specs.Line.{by_words, by_first_word, words_give, plain_line_gives, is_passed_over}
 use Rattle.wq_text.specs.Word.{words, is_plain, is_word}

@@ -8,7 +8,7 @@ use Rattle.wq_words.specs.declared.event.Event.TheVariants as event
 use Rattle.wq_words.specs.declared.layout.Layout.{Layout}
 use Rattle.wq_words.specs.Legal.{HasSeat, HasNumber}
 use Rattle.wq_words.specs.Limits.{most_items, most_senders}
-use Rattle.wq_text.specs.declared.fault.Kind.{Kind}
+use Rattle.wq_text.specs.declared.fault.FaultKind.{FaultKind}
 use Rattle.wq_text.specs.Arguments.{item, no_word, one}
 use Rattle.wq_text.specs.Fault.{of_none, of_one, of_two}
 use Rattle.wq_text.specs.Line.{Grammar}
@@ -67,7 +67,7 @@ history_word_at w ws =
     else senders_word (nth_word 0 ws) (nth_word (length ws - 1) ws)
 
 -- the seat and the number that the words of a line give, 0 where it has none
-unfoldable pub numbers_give : Layout → HistoryWord → List ℕ → List (List ℕ) → Result (ℕ × ℕ) Kind
+unfoldable pub numbers_give : Layout → HistoryWord → List ℕ → List (List ℕ) → Result (ℕ × ℕ) FaultKind
 numbers_give l history_word.Hold w ws = seat_and_number l w ws
 numbers_give l history_word.Busy w ws = seat_and_number l w ws
 numbers_give l history_word.Push w ws = seat_and_number l w ws
@@ -103,7 +103,7 @@ line_events_of history_word.ChainBusy s k = alone (event.ChainBusy k)
 line_events_of history_word.Rest s k = alone event.Rest
 
 -- the table of histories, by the first word and the words behind the second
-abbrev pub events_given : Layout → HistoryWord → List ℕ → List (List ℕ) → Result LineEvents Kind
+abbrev pub events_given : Layout → HistoryWord → List ℕ → List (List ℕ) → Result LineEvents FaultKind
 events_given l t w ws = of_two (line_events_of t) (numbers_give l t w ws)
 
 abbrev pub history_grammar : Grammar HistoryWord LineEvents

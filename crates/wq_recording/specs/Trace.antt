@@ -6,7 +6,7 @@ use Rattle.wq_words.specs.Limits.{most_items}
 use Rattle.wq_check.specs.declared.mark.Mark.{Mark}
 use Rattle.wq_check.specs.declared.mark.Mark.TheVariants as mark
 use Rattle.wq_check.specs.Trace.{number_of}
-use Rattle.wq_text.specs.declared.fault.Kind.{Kind}
+use Rattle.wq_text.specs.declared.fault.FaultKind.{FaultKind}
 use Rattle.wq_text.specs.Arguments.{item, one}
 use Rattle.wq_text.specs.Fault.{of_one}
 use Rattle.wq_text.specs.Line.{Grammar}
@@ -25,7 +25,7 @@ sight_of w =
     else None
 
 -- the table of traces
-unfoldable pub mark_gives : Layout → Sight → List (List ℕ) → Result Mark Kind
+unfoldable pub mark_gives : Layout → Sight → List (List ℕ) → Result Mark FaultKind
 mark_gives l sight.Queue ws = of_one mark.Queue (one (item l) ws)
 mark_gives l sight.Start ws = of_one mark.Start (one (item l) ws)
 mark_gives l sight.End ws = of_one mark.End (one (item l) ws)

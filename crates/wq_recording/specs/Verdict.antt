@@ -4,8 +4,8 @@ use Rattle.std.specs.Prelude.{◌≡◌, ◌≢◌, ℕ, ◌+◌, ◌-◌, ◌<�
 use Rattle.std.specs.Prelude.{Option, Some, Result, Ok, Err, MatchOption, option_map}
 use Rattle.wq_words.specs.declared.layout.Layout.{Layout}
 use Rattle.wq_check.specs.declared.cause.Cause.{Cause}
-use Rattle.wq_text.specs.declared.fault.Kind.{Kind}
-use Rattle.wq_text.specs.declared.fault.Kind.TheVariants as kind
+use Rattle.wq_text.specs.declared.fault.FaultKind.{FaultKind}
+use Rattle.wq_text.specs.declared.fault.FaultKind.TheVariants as kind
 use Rattle.wq_text.specs.declared.fault.ScriptError.{ScriptError}
 use Rattle.wq_text.specs.declared.header.Stage.{Stage}
 use Rattle.wq_text.specs.declared.header.Stage.TheVariants as stage
@@ -40,7 +40,7 @@ abbrev pub recording_line : {N A : Type 0} → Grammar N A → Lines A
 recording_line g = short_line (line_gives g)
 
 -- what is wrong with what no LF ends, if anything
-abbrev pub last_fault : Stage → List ℕ → Option Kind
+abbrev pub last_fault : Stage → List ℕ → Option FaultKind
 last_fault s [] = end_fault s
 last_fault s (b ∷ bs) = Some (if is_short (b ∷ bs) then kind.Cut else kind.Size)
 
@@ -90,7 +90,7 @@ module _ {A E : Type 0} (gives : Lines A) (rules : Rules A E) (text : List ℕ) 
     pub caused : rules.HasCause layout events event stop.cause
 
   -- the fault k of a line that is followed by others, or of what no LF ends
-  abbrev pub HasFaultAt : Stage → List ℕ → List (List ℕ) → Kind → Type 0
+  abbrev pub HasFaultAt : Stage → List ℕ → List (List ℕ) → FaultKind → Type 0
   HasFaultAt s line (next ∷ more) k = gives s line ≡ Err k
   HasFaultAt s rest [] k = last_fault s rest ≡ Some k
 

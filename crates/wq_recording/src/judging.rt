@@ -26,7 +26,7 @@ use std::alloc::{AllocError, Global};
 use std::io;
 use std::io::{BufRead, ErrorKind};
 use wq_check::Cause;
-use wq_text::{Kind, LineError, ParseError, ScriptError, Stage, layout_at_end, read_line};
+use wq_text::{FaultKind, LineError, ParseError, ScriptError, Stage, layout_at_end, read_line};
 use wq_words::Layout;
 
 // What a line without a fault comes to.
@@ -98,7 +98,7 @@ fn tell_line<L: Recording>(
     Ok(told)
 }
 
-fn refused(line: u64, kind: Kind) -> CheckError
+fn refused(line: u64, kind: FaultKind) -> CheckError
     ensures { result ≡ Text (Refused (record { line = line; kind = kind })) }
 {
     CheckError::Text(ParseError::Refused(ScriptError { line, kind }))
@@ -150,10 +150,10 @@ fn last<L: Recording>(
     ensures refused { IfErr result (λ error. IfTextRefused error (λ e. (e.line ≡ number) × (last_fault stage rest.now ≡ Some e.kind))) }
 {
     if rest.len() > MOST_LINE_BYTES {
-        return Err(refused(number, Kind::Size));
+        return Err(refused(number, FaultKind::Size));
     }
     if !rest.is_empty() {
-        return Err(refused(number, Kind::Cut));
+        return Err(refused(number, FaultKind::Cut));
     }
     let layout = layout_at_end(number, stage)?;
     found_so_far::<L>(alloc, layout, checker, None)

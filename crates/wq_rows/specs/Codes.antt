@@ -6,7 +6,7 @@ use Rattle.wq_check.specs.declared.cause.Cause.{Cause}
 use Rattle.wq_check.specs.declared.cause.Cause.TheVariants as cause
 use Rattle.wq_check.specs.declared.cause.EventError.{EventError}
 use Rattle.wq_check.specs.declared.cause.EventError.TheVariants as event_error
-use Rattle.wq_rows.specs.declared.row.Row.{Row}
+use Rattle.wq_rows.specs.declared.row.EventRow.{EventRow}
 use Rattle.wq_rows.specs.declared.checking.RowError.{RowError}
 use Rattle.wq_rows.specs.declared.checking.RowError.TheVariants as row_error
 use Rattle.wq_rows.specs.declared.checking.RowsError.{RowsError}
@@ -55,7 +55,7 @@ place_after before (Err (error.Row place why)) = place
 place_after before _ = before
 
 -- the code is that of some answer of a check, and the place is that of its row
-pub record SaidHistory (items barriers senders : ℕ) (rows : List Row) (code before place : ℕ) : Type 0 where
+pub record SaidHistory (items barriers senders : ℕ) (rows : List EventRow) (code before place : ℕ) : Type 0 where
   pub said : Result (Unit {0}) RowsError
   pub code_is : code ≡ check_code said
   pub place_is : place ≡ place_after before said

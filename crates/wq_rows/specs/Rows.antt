@@ -4,17 +4,17 @@ use Rattle.wq_words.specs.declared.event.Event.{Event}
 use Rattle.wq_words.specs.declared.event.Event.TheVariants.{Hold, Busy, Push, Back, Take, Close, Drain, Resume, Begin, End, Chain, ChainBusy, Rest}
 use Rattle.wq_words.specs.declared.event.Why.TheVariants as why
 use Rattle.wq_check.specs.Checked.{CheckerState, IsAfter}
-use Rattle.wq_rows.specs.declared.row.Row.{Row}
+use Rattle.wq_rows.specs.declared.row.EventRow.{EventRow}
 
 -- the row is of this kind, of a sender's event, and of an owner's event with a number
-abbrev pub IsOfSender : Row → (kind sender number : ℕ) → Type 0
+abbrev pub IsOfSender : EventRow → (kind sender number : ℕ) → Type 0
 IsOfSender row kind sender number = (row.kind ≡ kind) × (row.sender ≡ sender) × (row.number ≡ number)
 
-abbrev pub IsOfNumber : Row → (kind number : ℕ) → Type 0
+abbrev pub IsOfNumber : EventRow → (kind number : ℕ) → Type 0
 IsOfNumber row kind number = (row.kind ≡ kind) × (row.number ≡ number)
 
 -- the row is of this event
-abbrev pub IsRowFor : Row → Event → Type 0
+abbrev pub IsRowFor : EventRow → Event → Type 0
 IsRowFor row (Hold s k) = IsOfSender row 1 s k
 IsRowFor row (Busy s k) = IsOfSender row 2 s k
 IsRowFor row (Push s k) = IsOfSender row 3 s k
@@ -33,18 +33,18 @@ IsRowFor row (ChainBusy k) = IsOfNumber row 15 k
 IsRowFor row Rest = row.kind ≡ 16
 
 -- the row is of no event
-abbrev pub IsNoEvent : Row → Type 0
+abbrev pub IsNoEvent : EventRow → Type 0
 IsNoEvent row = (e : Event) → ¬ IsRowFor row e
 
 -- each row is of the event at its place, and there are as many
-abbrev pub AreRowsOf : List Row → List Event → Type 0
+abbrev pub AreRowsOf : List EventRow → List Event → Type 0
 AreRowsOf [] [] = Unit {0}
 AreRowsOf [] (e ∷ h) = ⊥
 AreRowsOf (row ∷ rows) [] = ⊥
 AreRowsOf (row ∷ rows) (e ∷ h) = IsRowFor row e × AreRowsOf rows h
 
 -- the checker was told just the events of these rows
-pub record HasRead (rows : List Row) (c : CheckerState) : Type 0 where
+pub record HasRead (rows : List EventRow) (c : CheckerState) : Type 0 where
   pub events : List Event
   pub are : AreRowsOf rows events
   pub after : IsAfter c events

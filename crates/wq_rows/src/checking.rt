@@ -1,11 +1,11 @@
 //! The check of a history that is given as rows.
 ghost use Rattle.std.specs.Prelude.{◌≡◌, [], ◌∷◌, ◌++◌, List, OnOk, IfErr};
 ghost use Rattle.wq_check.specs.Checked.{IsAfter};
-ghost use Rattle.wq_rows.specs.declared.row.Row.{Row as Line};
+ghost use Rattle.wq_rows.specs.declared.row.EventRow.{EventRow as Line};
 ghost use Rattle.wq_rows.specs.Rows.{HasRead};
 ghost use Rattle.wq_rows.specs.Found.{HasRowError, Checks, ChecksRows};
 
-use crate::row::{Row, event_of};
+use crate::row::{EventRow, event_of};
 use std::alloc::Global;
 use thiserror::Error;
 use wq_check::{Checker, EventError};
@@ -37,7 +37,7 @@ pub enum RowsError {
 }
 
 // Tells the event of one row.
-fn tell_row(checker: &mut Checker, row: Row) -> Result<(), RowError>
+fn tell_row(checker: &mut Checker, row: EventRow) -> Result<(), RowError>
     ensures told { OnOk result ((rows : List Line) → HasRead rows checker.old → HasRead (rows ++ row ∷ []) checker.new) }
     ensures refused { IfErr result (λ error. (rows : List Line) (read : HasRead rows checker.old)
         → HasRowError checker.old.queue.layout read.events row error) }
@@ -53,7 +53,7 @@ fn tell_row(checker: &mut Checker, row: Row) -> Result<(), RowError>
 }
 
 // Tells the events of all rows, up to the first that may not come.
-fn tell_rows(checker: &mut Checker, rows: &[Row]) -> Result<(), RowsError>
+fn tell_rows(checker: &mut Checker, rows: &[EventRow]) -> Result<(), RowsError>
     requires nothing { IsAfter checker.old [] }
     ensures { ChecksRows checker.old.queue.layout rows.now result }
 {
@@ -72,7 +72,7 @@ fn tell_rows(checker: &mut Checker, rows: &[Row]) -> Result<(), RowsError>
 /// come.
 pub fn check(
     alloc: Global,
-    rows: &[Row],
+    rows: &[EventRow],
     items: u32,
     barriers: u32,
     senders: u32,

@@ -3,7 +3,7 @@ ghost use Rattle.std.specs.Prelude.{◌≡◌};
 ghost use Rattle.wq_rows.specs.Codes.{cause_code, event_code, row_code, layout_code, SaidHistory};
 
 use crate::checking::{RowError, RowsError, check};
-use crate::row::Row;
+use crate::row::EventRow;
 use std::alloc::Global;
 use wq_check::{Cause, EventError};
 use wq_words::LayoutError;
@@ -62,7 +62,7 @@ fn layout_code(error: LayoutError) -> u32
 /// and from 96 on why a row may not come. The place of that row goes to `place`, which is else as it was.
 pub fn check_code(
     alloc: Global,
-    rows: &[Row],
+    rows: &[EventRow],
     items: u32,
     barriers: u32,
     senders: u32,

@@ -7,4 +7,4 @@ mod row;
 
 pub use checking::{RowError, RowsError, check};
 pub use code::check_code;
-pub use row::{Row, event_of};
+pub use row::{EventRow, event_of};

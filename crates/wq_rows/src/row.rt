@@ -8,7 +8,7 @@ use wq_words::{Event, Why};
 /// have is not read.
 #[repr(C)]
 #[derive(Clone, Copy, Debug, PartialEq, Eq)]
-pub struct Row {
+pub struct EventRow {
     /// Which kind of event it is, 1 to 16.
     pub kind: u32,
     /// The sender of a Hold, a Busy, a Push or a Back.
@@ -18,7 +18,7 @@ pub struct Row {
 }
 
 /// The event of a row. None where the kind is none.
-pub fn event_of(row: Row) -> Option<Event>
+pub fn event_of(row: EventRow) -> Option<Event>
     ensures read { IfSome result (IsRowFor row) }
     ensures none { IfNone result (IsNoEvent row) }
 {

@@ -21,58 +21,58 @@ module _ (layout : Layout) where
 
 module _ (w s k : ℕ) (h : List Event) (t : Tally) (other : s ≢ w) (no_owner : s ≢ owner_seat) (told : Tallied t w h) where
   -- so go the counts and the events of another seat
-  abbrev pub Counts : Tally → List Event → Type 0
-  Counts u es = Tallied u w (h ++ es) × Foreign w es
+  abbrev pub TalliesAs : Tally → List Event → Type 0
+  TalliesAs u es = Tallied u w (h ++ es) × Foreign w es
 
   -- they go so where the sender made just these events
   by_sender : (u : Tally) (es : List Event) → AllByRecursion (λ e. seat_of e ≡ s) es → u.queued ≡ t.queued + count_by is_push es
-      → u.busy ≡ t.busy + count_by is_busy es → u.refused ≡ t.refused + count_by is_refusal es → Counts u es
+      → u.busy ≡ t.busy + count_by is_busy es → u.refused ≡ t.refused + count_by is_refusal es → TalliesAs u es
   by_sender u es all q b r = let f = all_foreign w s es other no_owner all in (tallied_on t u w h es told f q b r, f)
 
-  busy_counts : Counts (record t { busy = t.busy + 1 }) (Busy s k ∷ [])
+  busy_counts : TalliesAs (record t { busy = t.busy + 1 }) (Busy s k ∷ [])
   busy_counts = by_sender (record t { busy = t.busy + 1 }) (Busy s k ∷ []) (refl, tt) (omega arith) refl (omega arith)
 
-  refused_counts : Counts (record t { refused = t.refused + 1 }) (Hold s k ∷ Back s k why.Closed ∷ [])
+  refused_counts : TalliesAs (record t { refused = t.refused + 1 }) (Hold s k ∷ Back s k why.Closed ∷ [])
   refused_counts = by_sender (record t { refused = t.refused + 1 }) (Hold s k ∷ Back s k why.Closed ∷ []) (refl, (refl, tt)) (omega arith) (omega arith) refl
 
-  drained_counts : Counts (record t { refused = t.refused + 1 }) (Hold s k ∷ Back s k why.Draining ∷ [])
+  drained_counts : TalliesAs (record t { refused = t.refused + 1 }) (Hold s k ∷ Back s k why.Draining ∷ [])
   drained_counts = by_sender (record t { refused = t.refused + 1 }) (Hold s k ∷ Back s k why.Draining ∷ []) (refl, (refl, tt)) (omega arith) (omega arith) refl
 
-  queued_counts : Counts (record t { queued = t.queued + 1 }) (Hold s k ∷ Push s k ∷ [])
+  queued_counts : TalliesAs (record t { queued = t.queued + 1 }) (Hold s k ∷ Push s k ∷ [])
   queued_counts = by_sender (record t { queued = t.queued + 1 }) (Hold s k ∷ Push s k ∷ []) (refl, (refl, tt)) refl (omega arith) (omega arith)
 
-  no_counts : Counts t []
+  no_counts : TalliesAs t []
   no_counts = by_sender t [] tt (omega arith) (omega arith) (omega arith)
 
-  held_counts : Counts t (Hold s k ∷ [])
+  held_counts : TalliesAs t (Hold s k ∷ [])
   held_counts = by_sender t (Hold s k ∷ []) (refl, tt) (omega arith) (omega arith) (omega arith)
 
-  post_counts : (back : Bool) → Counts (if back then record t { refused = t.refused + 1 } else record t { queued = t.queued + 1 })
+  post_counts : (back : Bool) → TalliesAs (if back then record t { refused = t.refused + 1 } else record t { queued = t.queued + 1 })
       ((if back then Back s k why.Closed else Push s k) ∷ [])
   post_counts true = by_sender (record t { refused = t.refused + 1 }) (Back s k why.Closed ∷ []) (refl, tt) (omega arith) (omega arith) refl
   post_counts false = by_sender (record t { queued = t.queued + 1 }) (Push s k ∷ []) (refl, tt) refl (omega arith) (omega arith)
 
-  pub cancel_counts : (table : DelayTable) → Counts t (cancel_events s k table)
+  pub cancel_counts : (table : DelayTable) → TalliesAs t (cancel_events s k table)
   cancel_counts table = each (on_table k table.entries)
     where
-      each : (b : Bool) → Counts t (if b then Back s k why.Cancelled ∷ [] else [])
+      each : (b : Bool) → TalliesAs t (if b then Back s k why.Cancelled ∷ [] else [])
       each true = by_sender t (Back s k why.Cancelled ∷ []) (refl, tt) (omega arith) (omega arith) (omega arith)
       each false = no_counts
 
-  pub queue_counts : Counts (counted (queue_answer k h) t) (queue_events s k h)
+  pub queue_counts : TalliesAs (counted (queue_answer k h) t) (queue_events s k h)
   queue_counts = each (pending h k) (closed h) (draining h)
     where
-      each : (set back drains : Bool) → Counts (counted (queue_says h set back drains) t) (queue_adds s k set back drains)
+      each : (set back drains : Bool) → TalliesAs (counted (queue_says h set back drains) t) (queue_adds s k set back drains)
       each true back drains = busy_counts
       each false true drains = refused_counts
       each false false true = drained_counts
       each false false false = queued_counts
 
-  pub arm_counts : (delay : ℕ) (table : DelayTable) → Counts (counted_armed (arm_answer k delay h table) t) (arm_events s k delay h table)
+  pub arm_counts : (delay : ℕ) (table : DelayTable) → TalliesAs (counted_armed (arm_answer k delay h table) t) (arm_events s k delay h table)
   arm_counts delay table = each (is_too_far delay table) (queues_now k delay h) (pending h k) (closed h) (draining h)
     where
       each : (far now set back drains : Bool)
-          → Counts (counted_armed (if far then armed.TooFar else (if now then armed_of (queue_says h set back drains) else armed.OnTable)) t)
+          → TalliesAs (counted_armed (if far then armed.TooFar else (if now then armed_of (queue_says h set back drains) else armed.OnTable)) t)
           (if far then [] else (if now then queue_adds s k set back drains else Hold s k ∷ []))
       each true now set back drains = no_counts
       each false true true back drains = busy_counts
@@ -83,15 +83,15 @@ module _ (w s k : ℕ) (h : List Event) (t : Tally) (other : s ≢ w) (no_owner 
 
   -- a push is counted where there is no delay
   module _ (delay : ℕ) where
-    at_once : (es : List Event) → (delay == 0) ≡ true → Counts (record t { queued = t.queued + 1 }) es → Counts (counted_push delay t) es
-    at_once es is c = subst (λ (b : Bool). Counts (if b then record t { queued = t.queued + 1 } else t) es) (sym is) c
+    at_once : (es : List Event) → (delay == 0) ≡ true → TalliesAs (record t { queued = t.queued + 1 }) es → TalliesAs (counted_push delay t) es
+    at_once es is c = subst (λ (b : Bool). TalliesAs (if b then record t { queued = t.queued + 1 } else t) es) (sym is) c
 
-    later : (es : List Event) → (delay == 0) ≡ false → Counts t es → Counts (counted_push delay t) es
-    later es is c = subst (λ (b : Bool). Counts (if b then record t { queued = t.queued + 1 } else t) es) (sym is) c
+    later : (es : List Event) → (delay == 0) ≡ false → TalliesAs t es → TalliesAs (counted_push delay t) es
+    later es is c = subst (λ (b : Bool). TalliesAs (if b then record t { queued = t.queued + 1 } else t) es) (sym is) c
 
     -- a modification of an item on the table, and of another, by the tests on which it rests
     on_counts : (zero back shuts : Bool) → (delay == 0) ≡ zero
-        → Counts (counted_modified delay true (if zero then (if back then modified.Closed
+        → TalliesAs (counted_modified delay true (if zero then (if back then modified.Closed
         else if shuts && not back then modified.Draining else modified.Moved) else modified.Moved) t)
         (if zero then (if shuts && not back then [] else (if back then Back s k why.Closed else Push s k) ∷ []) else [])
     on_counts true true true is = post_counts true
@@ -101,7 +101,7 @@ module _ (w s k : ℕ) (h : List Event) (t : Tally) (other : s ≢ w) (no_owner 
     on_counts false back shuts is = later [] is no_counts
 
     off_counts : (far zero set back drains : Bool) → (delay == 0) ≡ zero
-        → Counts (counted_modified delay false (modified_of (if far then armed.TooFar
+        → TalliesAs (counted_modified delay false (modified_of (if far then armed.TooFar
         else (if zero || set then armed_of (queue_says h set back drains) else armed.OnTable))) t)
         (if far then [] else (if zero || set then queue_adds s k set back drains else Hold s k ∷ []))
     off_counts true zero set back drains is = no_counts
@@ -113,15 +113,15 @@ module _ (w s k : ℕ) (h : List Event) (t : Tally) (other : s ≢ w) (no_owner 
     off_counts false false false back drains is = later (Hold s k ∷ []) is held_counts
 
     pub modify_counts : (table : DelayTable)
-        → Counts (counted_modified delay (on_table k table.entries) (modify_answer k delay h table) t) (modify_events s k delay h table)
+        → TalliesAs (counted_modified delay (on_table k table.entries) (modify_answer k delay h table) t) (modify_events s k delay h table)
     modify_counts table =
         each (is_too_far delay table) (on_table k table.entries) (on_counts (delay == 0) (closed h) (shut h) refl)
         (off_counts (is_too_far delay table) (delay == 0) (pending h k) (closed h) (draining h) refl)
       where
         each : (far on : Bool)
-            → Counts (counted_modified delay true (if delay == 0 then post_answer h else modified.Moved) t) (if delay == 0 then post_events s k h else [])
-            → Counts (counted_modified delay false (modified_of (arm_answer k delay h table)) t) (arm_events s k delay h table)
-            → Counts (counted_modified delay on (if far then modified.TooFar else
+            → TalliesAs (counted_modified delay true (if delay == 0 then post_answer h else modified.Moved) t) (if delay == 0 then post_events s k h else [])
+            → TalliesAs (counted_modified delay false (modified_of (arm_answer k delay h table)) t) (arm_events s k delay h table)
+            → TalliesAs (counted_modified delay on (if far then modified.TooFar else
             (if on then (if delay == 0 then post_answer h else modified.Moved) else modified_of (arm_answer k delay h table))) t)
             (if far then [] else (if on then (if delay == 0 then post_events s k h else []) else arm_events s k delay h table))
         each true on moved anew = no_counts

@@ -9,8 +9,8 @@ use crate::seats::Seats;
 use crate::tally::Tally;
 use std::alloc::{AllocError, Global};
 use wq_meaning::{
-    Counts, advance_word, answer_text, armed_text, either, modified_text, write_close, write_left,
-    write_line, write_row,
+    ReportCounts, advance_word, answer_text, armed_text, either, modified_text, write_close,
+    write_left, write_line, write_row,
 };
 use wq_text::{Command, Follow};
 use wq_words::Layout;
@@ -213,7 +213,7 @@ impl Engine {
     }
 
     // The counts of all events so far: the worker's, and those of all other seats.
-    fn counts(&self) -> Counts
+    fn counts(&self) -> ReportCounts
         requires ready { HasStateWithin (2 ^ 61) self.now }
         ensures { (s : _) → Meets self.now s → size s ≤ 2 ^ 61 → result ≡ counts_of (length s.table.entries) s.history }
     {
@@ -221,7 +221,7 @@ impl Engine {
         let chained = totals.chained as u64;
         let executed = totals.executed as u64;
         let accepted = self.tally.queued + totals.queued as u64 + chained;
-        Counts {
+        ReportCounts {
             accepted,
             chained,
             executed,

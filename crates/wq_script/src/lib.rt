@@ -12,6 +12,6 @@ mod tally;
 pub use output::run;
 pub use wq_meaning::{RunError, one_output, ordered_tables, run_steps};
 pub use wq_text::{
-    Command, Follow, Kind, ParseError, Schedule, Script, ScriptError, parse, parse_steps,
+    Command, FaultKind, Follow, ParseError, Schedule, Script, ScriptError, parse, parse_steps,
     reads_decimals,
 };

@@ -4,14 +4,14 @@ use Rattle.wq_table.proofs.Common.{IsPartOf, see, all_see, AllOf, chosen, beside
 use Rattle.wq_words.proofs.Prefixes.{prefix_on}
 use Rattle.wq_table.specs.Chair.{Standing, besides_at, Steps}
 use Rattle.std.specs.Prelude.{◌⊎◌}
-use Rattle.wq_table.specs.Beside.{Follow}
+use Rattle.wq_table.specs.Beside.{OthersFollow}
 
 -- it made steps, or none
 abbrev pub Beside : ℕ → Standing → Standing → Type 0
-Beside at old new = (new ≡ old) ⊎ Follow at old new
+Beside at old new = (new ≡ old) ⊎ OthersFollow at old new
 
 -- one step
-pub follow_step : (at : ℕ) (step : Step) (word : ℕ) (old new : Standing) → Steps at step word old new → Follow at old new
+pub follow_step : (at : ℕ) (step : Step) (word : ℕ) (old new : Standing) → Steps at step word old new → OthersFollow at old new
 follow_step at step word old new steps = let moves = steps.moves in let makes = moves.makes in record {
   machine = after makes.before (seat_at (part_at at old).seat (part_at at old).stage) step;
   sound = makes.sound_after;
@@ -39,7 +39,7 @@ see_twice : (g h : List Event) (v : View) → all_see h (all_see g v) ≡ all_se
 see_twice g h [] = refl
 see_twice g h (p ∷ ps) = ap (λ (v : View). see h p ∷ v) (see_twice g h ps)
 
-pub follow_on : (at : ℕ) (a b c : Standing) → Follow at a b → Follow at b c → Follow at a c
+pub follow_on : (at : ℕ) (a b c : Standing) → OthersFollow at a b → OthersFollow at b c → OthersFollow at a c
 follow_on at a b c x y = record {
   machine = y.machine;
   sound = y.sound;
@@ -50,10 +50,10 @@ follow_on at a b c x y = record {
 }
 
 pub beside_queue : (at : ℕ) (a b : Standing) → Beside at a b → b.queue ≡ a.queue
-beside_queue at a b x = ⊎_elim (λ (e : b ≡ a). ap (λ (z : Standing). z.queue) e) (λ (f : Follow at a b). f.queue_is) x
+beside_queue at a b x = ⊎_elim (λ (e : b ≡ a). ap (λ (z : Standing). z.queue) e) (λ (f : OthersFollow at a b). f.queue_is) x
 
 -- a chair of one part is still one
-pub alone_follow : (a b : Standing) → Follow 0 a b → a.others ≡ [] → b.others ≡ []
+pub alone_follow : (a b : Standing) → OthersFollow 0 a b → a.others ≡ [] → b.others ≡ []
 alone_follow a b f none = f.others_are ∙ ap (all_see f.machine.history) none
 
 -- a part that was of the machine, and has then seen its whole history
@@ -62,7 +62,7 @@ pub record Saw (m : Machine) (p q : Part) : Type 0 where
   pub is : q ≡ see m.history p
 
 -- of a chair of two parts the first made steps
-module _ (a b : Standing) (two : a.others ≡ part_at 1 a ∷ []) (f : Follow 0 a b) where
+module _ (a b : Standing) (two : a.others ≡ part_at 1 a ∷ []) (f : OthersFollow 0 a b) where
   others_then : b.others ≡ see f.machine.history (part_at 1 a) ∷ []
   others_then = f.others_are ∙ ap (all_see f.machine.history) two
 
@@ -77,7 +77,7 @@ only_first p x [] is = absurd (cc)
 only_first p x (r ∷ rs) is = let none : rs ≡ [] = cc in let same : p ≡ x = cc in (ap (λ (w : View). r ∷ w) none, same)
 
 -- or the second
-module _ (a b : Standing) (two : a.others ≡ part_at 1 a ∷ []) (f : Follow 1 a b) where
+module _ (a b : Standing) (two : a.others ≡ part_at 1 a ∷ []) (f : OthersFollow 1 a b) where
   one_then : (b.others ≡ part_at 1 b ∷ []) × (b.part ≡ see f.machine.history a.part)
   one_then = only_first b.part (see f.machine.history a.part) b.others (f.others_are ∙ ap (λ (v : View). all_see f.machine.history (besides 1 a.part v)) two)
 

@@ -16,7 +16,7 @@ use Rattle.wq_core.specs.Sound.{AreChained, IsChain}
 use Rattle.wq_words.proofs.Times.{times, times-reverse_aux, times-first}
 use Rattle.wq_words.specs.Listed.{listed}
 use Rattle.wq_core.proofs.KeptSound.{away_from_sender}
-use Rattle.wq_words.proofs.Keepers.{keeper_push, Gives}
+use Rattle.wq_words.proofs.Keepers.{keeper_push, LeavesWith}
 use Rattle.wq_words.proofs.Accepted.{queue_once}
 use Rattle.wq_table.specs.Slots.{IsSenders}
 
@@ -44,13 +44,13 @@ queue_sender x s queue is = let q : IsQueue (Sender s) = subst IsQueue is queue 
 
 module _ (h : List Event) (e : Event) (k : ℕ) where
   -- the event leaves k away from home
-  pub gone : (y : Keeper) → Gives k e y → y ≢ Home → (j : ℕ) → keeper (h ++ e ∷ []) j ≡ Home → (j ≢ k) × (keeper h j ≡ Home)
+  pub gone : (y : Keeper) → LeavesWith k e y → y ≢ Home → (j : ℕ) → keeper (h ++ e ∷ []) j ≡ Home → (j ≢ k) × (keeper h j ≡ Home)
   gone y g ne j at =
       let other : j ≢ k = λ same. ne (sym (g.1 (keeper h k)) ∙ (sym (keeper_push h e k) ∙ (ap (keeper (h ++ e ∷ [])) (sym same) ∙ at))) in
       (other, sym (g.0 j (keeper h j) other) ∙ (sym (keeper_push h e j) ∙ at))
 
   -- the event is about k alone
-  pub came : (y : Keeper) → Gives k e y → (j : ℕ) → keeper (h ++ e ∷ []) j ≡ Home → j ≢ k → keeper h j ≡ Home
+  pub came : (y : Keeper) → LeavesWith k e y → (j : ℕ) → keeper (h ++ e ∷ []) j ≡ Home → j ≢ k → keeper h j ≡ Home
   came y g j at other = sym (g.0 j (keeper h j) other) ∙ (sym (keeper_push h e j) ∙ at)
 
 pub begun_same : (h : List Event) (e : Event) → begun_by e ≡ None → begun (h ++ e ∷ []) ≡ begun h
@@ -119,7 +119,7 @@ over_sends Listed is = absurd is
 over_sends Owner is = is
 
 -- the event is about k alone: another number is away as before
-pub away_other : (h : List Event) (e : Event) (k : ℕ) (y : Keeper) (n n' : ℕ) → Gives k e y → (j : ℕ) → j ≢ k → n ≡ n'
+pub away_other : (h : List Event) (e : Event) (k : ℕ) (y : Keeper) (n n' : ℕ) → LeavesWith k e y → (j : ℕ) → j ≢ k → n ≡ n'
     → IsAway (keeper (h ++ e ∷ []) j) n' → IsAway (keeper h j) n
 away_other h e k y n n' g j other same is = subst (λ (z : Keeper × ℕ). IsAway z.0 z.1) (λ i. (
   (keeper_push h e j ∙
@@ -128,7 +128,7 @@ away_other h e k y n n' g j other same is = subst (λ (z : Keeper × ℕ). IsAwa
 )) is
 
 -- the event leaves k at no sender, and the owner has it not
-pub away_gone : (h : List Event) (e : Event) (k : ℕ) (y : Keeper) (out out' : ℕ → ℕ) → Gives k e y → (IsSenders y → ⊥) → out' k ≡ 0 → ((j : ℕ) → j ≢ k
+pub away_gone : (h : List Event) (e : Event) (k : ℕ) (y : Keeper) (out out' : ℕ → ℕ) → LeavesWith k e y → (IsSenders y → ⊥) → out' k ≡ 0 → ((j : ℕ) → j ≢ k
     → out j ≡ out' j)
     → (j : ℕ) → IsAway (keeper (h ++ e ∷ []) j) (out' j) → (j ≢ k) × IsAway (keeper h j) (out j)
 away_gone h e k y out out' g none_sends zero same j is =

@@ -12,7 +12,7 @@ use Rattle.wq_table.specs.SlotChairs.{ValueStanding, standing_of}
 
 -- The part at this place made steps. Each other part still was of the machine just after, has then seen all that had happened,
 -- and keeps all else: for it that was a meeting.
-pub record Follow (at : ℕ) (old new : Standing) : Type 0 where
+pub record OthersFollow (at : ℕ) (old new : Standing) : Type 0 where
   pub machine : Machine
   pub sound : IsSound machine
   pub queue_is : new.queue ≡ old.queue
@@ -23,7 +23,7 @@ pub record Follow (at : ℕ) (old new : Standing) : Type 0 where
 -- The part at this place made steps, and the others follow. All parts had been told a beginning of what is brought now, and have
 -- then been told all of it.
 pub record Learns {V : Type 0} (at : ℕ) (old new : ValueStanding V) : Type 0 where
-  pub follow : Follow at (standing_of old) (standing_of new)
+  pub follow : OthersFollow at (standing_of old) (standing_of new)
   pub brought : List (Option V)
   pub know : AllKnow brought (old.first ∷ old.others)
   pub told : AllTold brought (new.first ∷ new.others)

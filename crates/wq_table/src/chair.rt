@@ -13,11 +13,11 @@ ghost use Rattle.wq_table.specs.SlotSteps.{GoesBy, in_front};
 ghost use Rattle.wq_table.specs.SlotChairs.{part_in, ValueSteps, HasSlot, HasValue, Exchanges, TurnsHand, ValueMeet, ValueMeetAll, ValueJoined};
 
 use super::table::{
-    Begins, Blank, Both, Cancels, Chains, Checks, Closes, Drains, Ends, FindsClosed, FindsDraining,
-    GivesUp, Kind, Links, Looks, Makes, Marks, Meets, Off, Place, Pushes, Rests, Resumes, Stores,
-    Takes, Turns, Walks,
+    Ahead, BeginStep, Blank, CancelStep, ChainStep, CheckStep, CloseStep, DrainStep, EndStep,
+    FindClosedStep, FindDrainingStep, GiveUpStep, HoldStep, Kind, LinkStep, LookStep, Makes, Off,
+    PushStep, RestStep, ResumeStep, SeeAll, Stores, TakeStep, TurnStep, WalkStep, WhichPart,
 };
-use super::values::{Brings, Nothing, Says, Seated, SharedWords, Words};
+use super::values::{MakesAsSaid, Nothing, Says, SharedWords, TableSeat, Words};
 use std::marker::{Brand, Model};
 use std::mem::replace;
 use std::sync::Arc;
@@ -32,7 +32,7 @@ pub struct Chair<V> {
     pub(crate) words: Arc<Words<V>>,
     // for a chair of its own again for the second part: one that is made then may want memory
     pub(crate) spare: Option<Arc<Words<V>>>,
-    pub(crate) seat: Seated<V>,
+    pub(crate) seat: TableSeat<V>,
     pub(crate) layout: Layout,
 }
 
@@ -47,7 +47,7 @@ impl<V> Model for Chair<V> {
 }
 
 // The seat speaks for all that the other spoke for, too, which comes in front, and the other speaks for nobody.
-fn take_in<V>(table: &SharedWords<V>, seat: &mut Seated<V>, other: &mut Seated<V>)
+fn take_in<V>(table: &SharedWords<V>, seat: &mut TableSeat<V>, other: &mut TableSeat<V>)
     requires words { 0 < table.now.table_id.words }
     requires seat { seat.old.table_id ≡ table.now.table_id }
     requires other { other.old.table_id ≡ table.now.table_id }
@@ -55,14 +55,14 @@ fn take_in<V>(table: &SharedWords<V>, seat: &mut Seated<V>, other: &mut Seated<V
     ensures queue { seat.new.table_id ≡ seat.old.table_id }
     ensures parts { seat.new.me ≡ (other.old.me.0 ++ seat.old.me.0, seat.old.me.1) }
 {
-    let blank: Seated<V> = table.split_seat::<Blank>(seat);
+    let blank: TableSeat<V> = table.split_seat::<Blank>(seat);
     let theirs = replace(other, blank);
-    table.join_seat::<Both>(seat, theirs);
+    table.join_seat::<Ahead>(seat, theirs);
 }
 
 // One operation each on the word at a place. The kind says which step of the seat it is.
 impl<V> Chair<V> {
-    fn load<K: Kind, P: Place>(&mut self, place: usize) -> u64
+    fn load<K: Kind, P: WhichPart>(&mut self, place: usize) -> u64
         requires place { place < word_count (number_count (part_in P.at self.old).layout) }
         requires performs { Performs (part_in P.at self.old) (K.step place 0 (part_in P.at self.old).layout) place (λ n. n) (λ n. n) }
         requires goes { GoesBy self.old.queue.slots (part_in P.at self.old) None (K.step place 0 (part_in P.at self.old).layout) self.old.hand }
@@ -71,7 +71,7 @@ impl<V> Chair<V> {
         self.words.shared.load::<Makes<K, P>>(&mut self.seat, place)
     }
 
-    fn store<K: Kind, P: Place>(&mut self, place: usize, new: u64)
+    fn store<K: Kind, P: WhichPart>(&mut self, place: usize, new: u64)
         requires place { place < word_count (number_count (part_in P.at self.old).layout) }
         requires performs { Performs (part_in P.at self.old) (K.step place new (part_in P.at self.old).layout) place (λ n. new) (λ n. new) }
         requires goes { GoesBy self.old.queue.slots (part_in P.at self.old) None (K.step place new (part_in P.at self.old).layout) self.old.hand }
@@ -82,7 +82,7 @@ impl<V> Chair<V> {
             .store::<Stores<K, P>>(&mut self.seat, place, new);
     }
 
-    fn swap<K: Kind, P: Place>(&mut self, place: usize, new: u64) -> u64
+    fn swap<K: Kind, P: WhichPart>(&mut self, place: usize, new: u64) -> u64
         requires place { place < word_count (number_count (part_in P.at self.old).layout) }
         requires performs { Performs (part_in P.at self.old) (K.step place 0 (part_in P.at self.old).layout) place (λ n. new) (λ n. n) }
         requires goes { GoesBy self.old.queue.slots (part_in P.at self.old) None (K.step place 0 (part_in P.at self.old).layout) self.old.hand }
@@ -93,7 +93,7 @@ impl<V> Chair<V> {
             .swap::<Makes<K, P>>(&mut self.seat, place, new)
     }
 
-    fn replace<K: Kind, P: Place>(&mut self, place: usize, old: u64, new: u64) -> u64
+    fn replace<K: Kind, P: WhichPart>(&mut self, place: usize, old: u64, new: u64) -> u64
         requires place { place < word_count (number_count (part_in P.at self.old).layout) }
         requires performs { Performs (part_in P.at self.old) (K.step place new (part_in P.at self.old).layout) place (λ n. either (n == old) new n) (λ n. n) }
         requires goes { GoesBy self.old.queue.slots (part_in P.at self.old) None (K.step place new (part_in P.at self.old).layout) self.old.hand }
@@ -104,7 +104,7 @@ impl<V> Chair<V> {
             .compare_exchange::<Makes<K, P>>(&mut self.seat, place, old, new)
     }
 
-    fn or<K: Kind, P: Place, G: Says<V>>(&mut self, place: usize, bits: u64) -> u64
+    fn or<K: Kind, P: WhichPart, G: Says<V>>(&mut self, place: usize, bits: u64) -> u64
         requires place { place < word_count (number_count (part_in P.at self.old).layout) }
         requires performs { Performs (part_in P.at self.old) (K.step place 0 (part_in P.at self.old).layout) place (λ n. bit_or n bits) (λ n. n) }
         requires goes { GoesBy self.old.queue.slots (part_in P.at self.old) G.said (K.step place 0 (part_in P.at self.old).layout) self.old.hand }
@@ -112,10 +112,10 @@ impl<V> Chair<V> {
     {
         self.words
             .shared
-            .fetch_or::<Brings<K, P, G>>(&mut self.seat, place, bits)
+            .fetch_or::<MakesAsSaid<K, P, G>>(&mut self.seat, place, bits)
     }
 
-    fn and<K: Kind, P: Place>(&mut self, place: usize, bits: u64) -> u64
+    fn and<K: Kind, P: WhichPart>(&mut self, place: usize, bits: u64) -> u64
         requires place { place < word_count (number_count (part_in P.at self.old).layout) }
         requires performs { Performs (part_in P.at self.old) (K.step place 0 (part_in P.at self.old).layout) place (λ n. bit_and n bits) (λ n. n) }
         requires goes { GoesBy self.old.queue.slots (part_in P.at self.old) None (K.step place 0 (part_in P.at self.old).layout) self.old.hand }
@@ -126,7 +126,7 @@ impl<V> Chair<V> {
             .fetch_and::<Makes<K, P>>(&mut self.seat, place, bits)
     }
 
-    fn add<K: Kind, P: Place>(&mut self, place: usize, more: u64) -> u64
+    fn add<K: Kind, P: WhichPart>(&mut self, place: usize, more: u64) -> u64
         requires place { place < word_count (number_count (part_in P.at self.old).layout) }
         requires performs { Performs (part_in P.at self.old) (K.step place 0 (part_in P.at self.old).layout) place (λ n. (n + more) % 2 ^ 64) (λ n. n) }
         requires goes { GoesBy self.old.queue.slots (part_in P.at self.old) None (K.step place 0 (part_in P.at self.old).layout) self.old.hand }
@@ -141,25 +141,25 @@ impl<V> Chair<V> {
 impl<V> Chair<V> {
     /// A sender sets the PENDING bit of a number, and learns its item word as it was. Where it was clear the number's slot comes to
     /// hand, with nothing in it.
-    pub fn hold<P: Place>(&mut self, number: u32) -> u64
+    pub fn hold<P: WhichPart>(&mut self, number: u32) -> u64
         requires sender { IsSender (part_in P.at self.old).stage }
         requires number { number < number_count (part_in P.at self.old).layout }
         ensures step { ValueSteps P.at None (Hold number) result self.old self.new }
     {
         let place = item_place(self.layout, number);
-        self.or::<Marks, P, Nothing>(place, 1)
+        self.or::<HoldStep, P, Nothing>(place, 1)
     }
 
     /// A sender loads the head.
-    pub fn look<P: Place>(&mut self) -> u64
+    pub fn look<P: WhichPart>(&mut self) -> u64
         requires sender { IsSender (part_in P.at self.old).stage }
         ensures step { ValueSteps P.at None Look result self.old self.new }
     {
-        self.load::<Looks, P>(HEAD)
+        self.load::<LookStep, P>(HEAD)
     }
 
     /// A sender stores the link to the head that it saw as the link of a number that it holds.
-    pub fn link<P: Place>(&mut self, number: u32, seen: u64)
+    pub fn link<P: WhichPart>(&mut self, number: u32, seen: u64)
         requires number { number < number_count (part_in P.at self.old).layout }
         requires held { Holds (part_in P.at self.old).seen (part_in P.at self.old).seat number }
         requires seen { HasSeen seen (part_in P.at self.old).stage }
@@ -168,12 +168,12 @@ impl<V> Chair<V> {
     {
         let place = link_place(number);
         let word = link_word(seen);
-        self.store::<Links, P>(place, word);
+        self.store::<LinkStep, P>(place, word);
     }
 
     /// A sender exchanges the head that it saw for the number that it linked to it, and learns the head as it was. Where that wins the
     /// number's slot goes with it.
-    pub fn push<P: Place>(&mut self, number: u32, seen: u64) -> u64
+    pub fn push<P: WhichPart>(&mut self, number: u32, seen: u64) -> u64
         requires number { number < number_count (part_in P.at self.old).layout }
         requires linked { HasLinked seen number (part_in P.at self.old).stage }
         requires slot { 0 < self.old.queue.slots → HasSlot number self.old.hand }
@@ -183,11 +183,11 @@ impl<V> Chair<V> {
         // opens the chair, whose invariant says how many slots there are
         let _ = &self.layout;
         let word = Head::Item(number).to_word();
-        self.replace::<Pushes, P>(HEAD, seen, word)
+        self.replace::<PushStep, P>(HEAD, seen, word)
     }
 
     /// A sender that saw the queue closed clears the PENDING bit of a number that it holds, whose slot it has emptied.
-    pub fn back_closed<P: Place>(&mut self, number: u32)
+    pub fn back_closed<P: WhichPart>(&mut self, number: u32)
         requires number { number < number_count (part_in P.at self.old).layout }
         requires held { Holds (part_in P.at self.old).seen (part_in P.at self.old).seat number }
         requires closed { HasSeen closed_word (part_in P.at self.old).stage }
@@ -195,11 +195,11 @@ impl<V> Chair<V> {
         ensures step { (word : ℕ) × ValueSteps P.at None (Back number Closed) word self.old self.new }
     {
         let place = item_place(self.layout, number);
-        self.and::<FindsClosed, P>(place, 0);
+        self.and::<FindClosedStep, P>(place, 0);
     }
 
     /// A sender that saw the queue draining clears the PENDING bit of a number that it holds, whose slot it has emptied.
-    pub fn back_draining<P: Place>(&mut self, number: u32)
+    pub fn back_draining<P: WhichPart>(&mut self, number: u32)
         requires number { number < number_count (part_in P.at self.old).layout }
         requires held { Holds (part_in P.at self.old).seen (part_in P.at self.old).seat number }
         requires draining { HasSeen draining_word (part_in P.at self.old).stage }
@@ -207,11 +207,11 @@ impl<V> Chair<V> {
         ensures step { (word : ℕ) × ValueSteps P.at None (Back number Draining) word self.old self.new }
     {
         let place = item_place(self.layout, number);
-        self.and::<FindsDraining, P>(place, 0);
+        self.and::<FindDrainingStep, P>(place, 0);
     }
 
     /// A sender whose tries were all lost clears the PENDING bit of a number that it holds, whose slot it has emptied.
-    pub fn back_contended<P: Place>(&mut self, number: u32)
+    pub fn back_contended<P: WhichPart>(&mut self, number: u32)
         requires sender { IsSender (part_in P.at self.old).stage }
         requires number { number < number_count (part_in P.at self.old).layout }
         requires held { Holds (part_in P.at self.old).seen (part_in P.at self.old).seat number }
@@ -219,11 +219,11 @@ impl<V> Chair<V> {
         ensures step { (word : ℕ) × ValueSteps P.at None (Back number Contended) word self.old self.new }
     {
         let place = item_place(self.layout, number);
-        self.and::<GivesUp, P>(place, 0);
+        self.and::<GiveUpStep, P>(place, 0);
     }
 
     /// A sender clears the PENDING bit of a number that it holds, whose slot it has emptied.
-    pub fn back_cancelled<P: Place>(&mut self, number: u32)
+    pub fn back_cancelled<P: WhichPart>(&mut self, number: u32)
         requires sender { IsSender (part_in P.at self.old).stage }
         requires number { number < number_count (part_in P.at self.old).layout }
         requires held { Holds (part_in P.at self.old).seen (part_in P.at self.old).seat number }
@@ -231,63 +231,63 @@ impl<V> Chair<V> {
         ensures step { (word : ℕ) × ValueSteps P.at None (Back number Cancelled) word self.old self.new }
     {
         let place = item_place(self.layout, number);
-        self.and::<Cancels, P>(place, 0);
+        self.and::<CancelStep, P>(place, 0);
     }
 
     /// A sender loads an item word.
-    pub fn check<P: Place>(&mut self, number: u32) -> u64
+    pub fn check<P: WhichPart>(&mut self, number: u32) -> u64
         requires sender { IsSender (part_in P.at self.old).stage }
         requires number { number < number_count (part_in P.at self.old).layout }
         ensures step { ValueSteps P.at None (Check number) result self.old self.new }
     {
         let place = item_place(self.layout, number);
-        self.load::<Checks, P>(place)
+        self.load::<CheckStep, P>(place)
     }
 
     /// The owner takes the whole list, leaves the mark of a queue at work, and learns the head as it was.
-    pub fn take<P: Place>(&mut self) -> u64
+    pub fn take<P: WhichPart>(&mut self) -> u64
         requires open { ¬ IsShut (part_in P.at self.old).seen }
         requires walked { HasWalked (part_in P.at self.old).stage }
         requires empty { HasNone (part_in P.at self.old).stage }
         ensures step { ValueSteps P.at None Take result self.old self.new }
     {
-        self.swap::<Takes, P>(HEAD, BUSY)
+        self.swap::<TakeStep, P>(HEAD, BUSY)
     }
 
     /// The owner takes the whole list and leaves the closed mark.
-    pub fn close<P: Place>(&mut self) -> u64
+    pub fn close<P: WhichPart>(&mut self) -> u64
         requires unclosed { ¬ IsClosed (part_in P.at self.old).seen }
         requires walked { HasWalked (part_in P.at self.old).stage }
         ensures step { ValueSteps P.at None Close result self.old self.new }
     {
         let word = Head::Closed.to_word();
-        self.swap::<Closes, P>(HEAD, word)
+        self.swap::<CloseStep, P>(HEAD, word)
     }
 
     /// The owner takes the whole list and leaves the draining mark.
-    pub fn drain<P: Place>(&mut self) -> u64
+    pub fn drain<P: WhichPart>(&mut self) -> u64
         requires open { ¬ IsShut (part_in P.at self.old).seen }
         requires walked { HasWalked (part_in P.at self.old).stage }
         ensures step { ValueSteps P.at None Drain result self.old self.new }
     {
         let word = Head::Draining.to_word();
-        self.swap::<Drains, P>(HEAD, word)
+        self.swap::<DrainStep, P>(HEAD, word)
     }
 
     /// The owner, with nothing that waits or runs, leaves the mark of a queue at work in place of the draining mark.
-    pub fn resume<P: Place>(&mut self)
+    pub fn resume<P: WhichPart>(&mut self)
         requires draining { IsDraining (part_in P.at self.old).seen }
         requires walked { HasWalked (part_in P.at self.old).stage }
         requires empty { HasNone (part_in P.at self.old).stage }
         requires idle { ¬ IsRunning (part_in P.at self.old).seen }
         ensures step { (word : ℕ) × ValueSteps P.at None Resume word self.old self.new }
     {
-        self.swap::<Resumes, P>(HEAD, BUSY);
+        self.swap::<ResumeStep, P>(HEAD, BUSY);
     }
 
     /// The owner loads the link of the number that it walks next, or of the oldest number of its batch once it has walked all.
     /// The slot of the number that it walks comes to hand, with what the number brought.
-    pub fn walk<P: Place>(&mut self, number: u32) -> u64
+    pub fn walk<P: WhichPart>(&mut self, number: u32) -> u64
         requires number { number < number_count (part_in P.at self.old).layout }
         requires next { IsToWalk number (part_in P.at self.old).stage }
         ensures step { ValueSteps P.at None Walk result self.old self.new }
@@ -295,11 +295,11 @@ impl<V> Chair<V> {
         // opens the chair, whose invariant says how many slots there are
         let _ = &self.layout;
         let place = link_place(number);
-        self.load::<Walks, P>(place)
+        self.load::<WalkStep, P>(place)
     }
 
     /// The owner stores a number as the link of one that it walked or that waits in its batch.
-    pub fn turn<P: Place>(&mut self, number: u32, next: u32)
+    pub fn turn<P: WhichPart>(&mut self, number: u32, next: u32)
         requires number { number < number_count (part_in P.at self.old).layout }
         requires next { next < number_count (part_in P.at self.old).layout }
         requires taken { IsToTurn number (part_in P.at self.old).stage }
@@ -307,11 +307,11 @@ impl<V> Chair<V> {
     {
         let place = link_place(number);
         let word = Head::Item(next).to_word();
-        self.store::<Turns, P>(place, word);
+        self.store::<TurnStep, P>(place, word);
     }
 
     /// The owner clears the PENDING bit of the oldest number of its batch, whose slot it has emptied and which then runs.
-    pub fn begin<P: Place>(&mut self, number: u32)
+    pub fn begin<P: WhichPart>(&mut self, number: u32)
         requires number { number < number_count (part_in P.at self.old).layout }
         requires next { IsToBegin number (part_in P.at self.old).stage }
         requires idle { ¬ IsRunning (part_in P.at self.old).seen }
@@ -319,21 +319,21 @@ impl<V> Chair<V> {
         ensures step { (word : ℕ) × ValueSteps P.at None Begin word self.old self.new }
     {
         let place = item_place(self.layout, number);
-        self.and::<Begins, P>(place, 0);
+        self.and::<BeginStep, P>(place, 0);
     }
 
     /// The owner counts the execution that runs as ended.
-    pub fn end<P: Place>(&mut self)
+    pub fn end<P: WhichPart>(&mut self)
         requires owner { IsOwner (part_in P.at self.old).stage }
         requires runs { IsRunning (part_in P.at self.old).seen }
         ensures step { (word : ℕ) × ValueSteps P.at None End word self.old self.new }
     {
         let place = done_place(self.layout);
-        self.add::<Ends, P>(place, 1);
+        self.add::<EndStep, P>(place, 1);
     }
 
     // The owner sets the PENDING bit of an item while the queue is shut.
-    fn chain_as<P: Place, G: Says<V>>(&mut self, number: u32) -> u64
+    fn chain_as<P: WhichPart, G: Says<V>>(&mut self, number: u32) -> u64
         requires item { number < (part_in P.at self.old).layout.items }
         requires shut { IsShut (part_in P.at self.old).seen }
         requires walked { HasWalked (part_in P.at self.old).stage }
@@ -342,12 +342,12 @@ impl<V> Chair<V> {
         ensures step { ValueSteps P.at G.said (Chain number) result self.old self.new }
     {
         let place = item_place(self.layout, number);
-        self.or::<Chains, P, G>(place, 1)
+        self.or::<ChainStep, P, G>(place, 1)
     }
 
     /// The owner sets the PENDING bit of an item while the queue, whose table has no slots, is shut, and learns its item word as it
     /// was.
-    pub fn chain<P: Place>(&mut self, number: u32) -> u64
+    pub fn chain<P: WhichPart>(&mut self, number: u32) -> u64
         requires none { self.old.queue.slots ≡ 0 }
         requires item { number < (part_in P.at self.old).layout.items }
         requires shut { IsShut (part_in P.at self.old).seen }
@@ -360,7 +360,7 @@ impl<V> Chair<V> {
 
     /// The owner sets the PENDING bit of an item while the queue is shut, and learns its item word as it was. Where it was clear the
     /// item is accepted with this value, and its slot comes to hand, where the value is to be put.
-    pub fn chain_value<P: Place>(&mut self, number: u32, value: &V) -> u64
+    pub fn chain_value<P: WhichPart>(&mut self, number: u32, value: &V) -> u64
         requires item { number < (part_in P.at self.old).layout.items }
         requires shut { IsShut (part_in P.at self.old).seen }
         requires walked { HasWalked (part_in P.at self.old).stage }
@@ -371,7 +371,7 @@ impl<V> Chair<V> {
     }
 
     // The same, where the ghost member is the value.
-    fn chain_said<P: Place, G: Says<V>>(&mut self, number: u32, value: &V) -> u64
+    fn chain_said<P: WhichPart, G: Says<V>>(&mut self, number: u32, value: &V) -> u64
         requires item { number < (part_in P.at self.old).layout.items }
         requires shut { IsShut (part_in P.at self.old).seen }
         requires walked { HasWalked (part_in P.at self.old).stage }
@@ -385,7 +385,7 @@ impl<V> Chair<V> {
 
     /// The owner, with nothing that waits or runs, exchanges the mark of a queue at work for that of a queue that rests, and
     /// learns the head as it was.
-    pub fn rest<P: Place>(&mut self) -> u64
+    pub fn rest<P: WhichPart>(&mut self) -> u64
         requires open { ¬ IsShut (part_in P.at self.old).seen }
         requires walked { HasWalked (part_in P.at self.old).stage }
         requires empty { HasNone (part_in P.at self.old).stage }
@@ -393,7 +393,7 @@ impl<V> Chair<V> {
         ensures step { ValueSteps P.at None Rest result self.old self.new }
     {
         let word = Head::Empty.to_word();
-        self.replace::<Rests, P>(HEAD, BUSY, word)
+        self.replace::<RestStep, P>(HEAD, BUSY, word)
     }
 
     /// Reads and writes the slot in front of the hand.
@@ -423,7 +423,7 @@ impl<V> Chair<V> {
         let table = &self.words.shared;
         let theirs = &mut other.seat;
         take_in(table, &mut self.seat, theirs);
-        table.load::<Meets>(&mut self.seat, done_place(self.layout));
+        table.load::<SeeAll>(&mut self.seat, done_place(self.layout));
         other.seat = table.split_seat::<Off>(&mut self.seat);
     }
 
@@ -439,7 +439,7 @@ impl<V> Chair<V> {
         let table = &self.words.shared;
         take_in(table, &mut self.seat, &mut other.seat);
         take_in(table, &mut self.seat, &mut third.seat);
-        table.load::<Meets>(&mut self.seat, done_place(self.layout));
+        table.load::<SeeAll>(&mut self.seat, done_place(self.layout));
         third.seat = table.split_seat::<Off>(&mut self.seat);
         other.seat = table.split_seat::<Off>(&mut self.seat);
     }
@@ -468,10 +468,10 @@ impl<V: Drop> Chair<V> {
         } = other;
         let table = &words.shared;
         // what is joined comes in front, so the seat's own part goes out meanwhile
-        let mine: Seated<V> = table.split_seat::<Off>(&mut seat);
-        table.join_seat::<Both>(&mut seat, theirs);
-        table.join_seat::<Both>(&mut seat, mine);
-        table.load::<Meets>(&mut seat, done_place(layout));
+        let mine: TableSeat<V> = table.split_seat::<Off>(&mut seat);
+        table.join_seat::<Ahead>(&mut seat, theirs);
+        table.join_seat::<Ahead>(&mut seat, mine);
+        table.load::<SeeAll>(&mut seat, done_place(layout));
         Chair {
             words,
             spare: Some(spare),
@@ -494,9 +494,9 @@ impl<V: Drop> Chair<V> {
         } = self;
         let Some(spare) = spare else { unreachable!() };
         let table = &words.shared;
-        let front: Seated<V> = table.split_seat::<Off>(&mut seat);
-        let back: Seated<V> = table.split_seat::<Off>(&mut seat);
-        table.join_seat::<Both>(&mut seat, front);
+        let front: TableSeat<V> = table.split_seat::<Off>(&mut seat);
+        let back: TableSeat<V> = table.split_seat::<Off>(&mut seat);
+        table.join_seat::<Ahead>(&mut seat, front);
         let first = Chair {
             words,
             spare: None,

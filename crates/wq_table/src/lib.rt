@@ -8,5 +8,5 @@ mod values;
 
 pub use chair::Chair;
 pub use making::chairs;
-pub use table::{First, Part, Place, Second, Stage};
+pub use table::{First, Part, Second, Stage, WhichPart};
 pub use values::ValuePart;

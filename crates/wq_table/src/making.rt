@@ -6,7 +6,7 @@ ghost use Rattle.wq_table.specs.Making.{IsCutTo};
 
 use super::chair::Chair;
 use super::table::Off;
-use super::values::{Seated, Words};
+use super::values::{TableSeat, Words};
 use atomic_table::Table;
 use std::alloc::{AllocError, Global};
 use std::sync::Arc;
@@ -17,7 +17,7 @@ use wq_words::Layout;
 #[derive(Drop)]
 struct Uncut<V> {
     words: Arc<Words<V>>,
-    seat: Seated<V>,
+    seat: TableSeat<V>,
 }
 
 fn new_words<V: Drop>(alloc: Global, layout: Layout, slots: usize) -> Result<Uncut<V>, AllocError>
@@ -44,7 +44,7 @@ fn cut_off<V: Drop>(
     ensures sender { IfOk result (λ chair. chair ≡ value_sender uncut.old.seat.table_id layout number) }
 {
     let words = Arc::try_clone(&uncut.words)?;
-    let seat: Seated<V> = words.shared.split_seat::<Off>(&mut uncut.seat);
+    let seat: TableSeat<V> = words.shared.split_seat::<Off>(&mut uncut.seat);
     Ok(Chair {
         words,
         spare: None,

@@ -40,7 +40,7 @@ pub(crate) trait Kind {
 }
 
 /// Which part of a chair makes a step, by its place. A chair of fewer parts has its last one make it.
-pub trait Place {
+pub trait WhichPart {
     ghost use Rattle.std.specs.Prelude.{ℕ};
 
     ghost at: { ℕ };
@@ -49,14 +49,14 @@ pub trait Place {
 /// The first part.
 pub struct First;
 
-impl Place for First {
+impl WhichPart for First {
     ghost at = { 0 };
 }
 
 /// The second part.
 pub struct Second;
 
-impl Place for Second {
+impl WhichPart for Second {
     ghost at = { 1 };
 }
 
@@ -70,160 +70,160 @@ pub(crate) struct Stores<K, P> {
     of: PhantomData<(K, P)>,
 }
 
-pub(crate) struct Marks;
+pub(crate) struct HoldStep;
 
-impl Kind for Marks {
+impl Kind for HoldStep {
     ghost use Rattle.wq_table.specs.Plays.{holds};
 
     ghost step = { holds };
 }
 
-pub(crate) struct Looks;
+pub(crate) struct LookStep;
 
-impl Kind for Looks {
+impl Kind for LookStep {
     ghost use Rattle.wq_table.specs.Plays.{looks};
 
     ghost step = { looks };
 }
 
-pub(crate) struct Links;
+pub(crate) struct LinkStep;
 
-impl Kind for Links {
+impl Kind for LinkStep {
     ghost use Rattle.wq_table.specs.Plays.{links};
 
     ghost step = { links };
 }
 
-pub(crate) struct Pushes;
+pub(crate) struct PushStep;
 
-impl Kind for Pushes {
+impl Kind for PushStep {
     ghost use Rattle.wq_table.specs.Plays.{pushes};
 
     ghost step = { pushes };
 }
 
-pub(crate) struct FindsClosed;
+pub(crate) struct FindClosedStep;
 
-impl Kind for FindsClosed {
+impl Kind for FindClosedStep {
     ghost use Rattle.wq_table.specs.Plays.{finds_closed};
 
     ghost step = { finds_closed };
 }
 
-pub(crate) struct FindsDraining;
+pub(crate) struct FindDrainingStep;
 
-impl Kind for FindsDraining {
+impl Kind for FindDrainingStep {
     ghost use Rattle.wq_table.specs.Plays.{finds_draining};
 
     ghost step = { finds_draining };
 }
 
-pub(crate) struct GivesUp;
+pub(crate) struct GiveUpStep;
 
-impl Kind for GivesUp {
+impl Kind for GiveUpStep {
     ghost use Rattle.wq_table.specs.Plays.{gives_up};
 
     ghost step = { gives_up };
 }
 
-pub(crate) struct Cancels;
+pub(crate) struct CancelStep;
 
-impl Kind for Cancels {
+impl Kind for CancelStep {
     ghost use Rattle.wq_table.specs.Plays.{cancels};
 
     ghost step = { cancels };
 }
 
-pub(crate) struct Checks;
+pub(crate) struct CheckStep;
 
-impl Kind for Checks {
+impl Kind for CheckStep {
     ghost use Rattle.wq_table.specs.Plays.{checks};
 
     ghost step = { checks };
 }
 
-pub(crate) struct Takes;
+pub(crate) struct TakeStep;
 
-impl Kind for Takes {
+impl Kind for TakeStep {
     ghost use Rattle.wq_table.specs.Plays.{takes};
 
     ghost step = { takes };
 }
 
-pub(crate) struct Closes;
+pub(crate) struct CloseStep;
 
-impl Kind for Closes {
+impl Kind for CloseStep {
     ghost use Rattle.wq_table.specs.Plays.{closes};
 
     ghost step = { closes };
 }
 
-pub(crate) struct Drains;
+pub(crate) struct DrainStep;
 
-impl Kind for Drains {
+impl Kind for DrainStep {
     ghost use Rattle.wq_table.specs.Plays.{drains};
 
     ghost step = { drains };
 }
 
-pub(crate) struct Resumes;
+pub(crate) struct ResumeStep;
 
-impl Kind for Resumes {
+impl Kind for ResumeStep {
     ghost use Rattle.wq_table.specs.Plays.{resumes};
 
     ghost step = { resumes };
 }
 
-pub(crate) struct Walks;
+pub(crate) struct WalkStep;
 
-impl Kind for Walks {
+impl Kind for WalkStep {
     ghost use Rattle.wq_table.specs.Plays.{walks};
 
     ghost step = { walks };
 }
 
-pub(crate) struct Turns;
+pub(crate) struct TurnStep;
 
-impl Kind for Turns {
+impl Kind for TurnStep {
     ghost use Rattle.wq_table.specs.Plays.{turns_link};
 
     ghost step = { turns_link };
 }
 
-pub(crate) struct Begins;
+pub(crate) struct BeginStep;
 
-impl Kind for Begins {
+impl Kind for BeginStep {
     ghost use Rattle.wq_table.specs.Plays.{begins};
 
     ghost step = { begins };
 }
 
-pub(crate) struct Ends;
+pub(crate) struct EndStep;
 
-impl Kind for Ends {
+impl Kind for EndStep {
     ghost use Rattle.wq_table.specs.Plays.{ends};
 
     ghost step = { ends };
 }
 
-pub(crate) struct Chains;
+pub(crate) struct ChainStep;
 
-impl Kind for Chains {
+impl Kind for ChainStep {
     ghost use Rattle.wq_table.specs.Plays.{chains};
 
     ghost step = { chains };
 }
 
-pub(crate) struct Rests;
+pub(crate) struct RestStep;
 
-impl Kind for Rests {
+impl Kind for RestStep {
     ghost use Rattle.wq_table.specs.Plays.{rests};
 
     ghost step = { rests };
 }
 
 // The seats of a view see all that has happened.
-pub(crate) struct Meets;
+pub(crate) struct SeeAll;
 
 // The first part goes to a new seat.
 pub(crate) struct Off;
@@ -232,4 +232,4 @@ pub(crate) struct Off;
 pub(crate) struct Blank;
 
 // The second seat's parts come first, and it is left with none.
-pub(crate) struct Both;
+pub(crate) struct Ahead;

@@ -1,5 +1,5 @@
 //! What the seats of a queue know of what its items bring: the rule of the table, and what each step tells the seat that makes it.
-use super::table::{Blank, Both, Kind, Law, Makes, Meets, Off, Part, Place, Stores};
+use super::table::{Ahead, Blank, Kind, Law, Makes, Off, Part, SeeAll, Stores, WhichPart};
 use atomic_table::{Join, Play, Seat, Shared, Split, Table, TableRule};
 use std::alloc::Global;
 use std::marker::{Brand, PhantomData};
@@ -26,7 +26,7 @@ pub(crate) type SharedWords<V> = Shared<Option<V>, GhostList<ValuePart<V>>, Layo
 
 pub(crate) type Words<V> = Table<Option<V>, GhostList<ValuePart<V>>, Layout, Law, Global>;
 
-pub(crate) type Seated<V> = Seat<Option<V>, GhostList<ValuePart<V>>>;
+pub(crate) type TableSeat<V> = Seat<Option<V>, GhostList<ValuePart<V>>>;
 
 // What a chained item is to have, for the proof alone. A call at `Brand` picks it from what it is given.
 pub(crate) trait Says<V> {
@@ -50,32 +50,32 @@ impl<V> Says<V> for Brand {
     ghost said = { None };
 }
 
-impl<V, K: Kind, P: Place> Play<Option<V>, GhostList<ValuePart<V>>> for Makes<K, P> {
+impl<V, K: Kind, P: WhichPart> Play<Option<V>, GhostList<ValuePart<V>>> for Makes<K, P> {
     ghost use Rattle.std.specs.Prelude.{None};
     ghost use Rattle.wq_table.specs.SlotSteps.{tells_values};
 
     ghost then = { tells_values P.at None K.step };
 }
 
-impl<V, K: Kind, P: Place> Play<Option<V>, GhostList<ValuePart<V>>> for Stores<K, P> {
+impl<V, K: Kind, P: WhichPart> Play<Option<V>, GhostList<ValuePart<V>>> for Stores<K, P> {
     ghost use Rattle.wq_table.specs.SlotSteps.{stores_values};
 
     ghost then = { stores_values P.at K.step };
 }
 
 // The part at the place makes the step of this kind, by which what is said is brought.
-pub(crate) struct Brings<K, P, G> {
+pub(crate) struct MakesAsSaid<K, P, G> {
     of: PhantomData<(K, P, G)>,
 }
 
-impl<V, K: Kind, P: Place, G: Says<V>> Play<Option<V>, GhostList<ValuePart<V>>>
-    for Brings<K, P, G> {
+impl<V, K: Kind, P: WhichPart, G: Says<V>> Play<Option<V>, GhostList<ValuePart<V>>>
+    for MakesAsSaid<K, P, G> {
     ghost use Rattle.wq_table.specs.SlotSteps.{tells_values};
 
     ghost then = { tells_values P.at G.said K.step };
 }
 
-impl<V> Play<Option<V>, GhostList<ValuePart<V>>> for Meets {
+impl<V> Play<Option<V>, GhostList<ValuePart<V>>> for SeeAll {
     ghost use Rattle.wq_table.specs.SlotSteps.{meets_values};
 
     ghost then = { meets_values };
@@ -97,7 +97,7 @@ impl<V> Split<GhostList<ValuePart<V>>> for Blank {
     ghost right = { λ v. [] };
 }
 
-impl<V> Join<GhostList<ValuePart<V>>> for Both {
+impl<V> Join<GhostList<ValuePart<V>>> for Ahead {
     ghost use Rattle.std.specs.Prelude.{[], ◌++◌};
 
     ghost both = { λ v w. w ++ v };

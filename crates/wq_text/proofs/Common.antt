@@ -25,7 +25,7 @@ unfoldable pub use Rattle.wq_text.specs.Sound.{AreSound, SoundAt, KeepsSound, Ke
 pub use Rattle.wq_text.specs.Text.{LinesLead, Spells, end_fault, HasLineFault, IsRefusal, HasOneOutcome}
 pub use Rattle.wq_text.specs.Turn.{after_b, without_last, Turn}
 unfoldable pub use Rattle.wq_text.specs.Word.{spelled_number, is_numeral, is_plain, parts}
-pub use Rattle.wq_text.specs.declared.fault.Kind.{Kind}
+pub use Rattle.wq_text.specs.declared.fault.FaultKind.{FaultKind}
 pub use Rattle.wq_text.specs.declared.fault.LineError.{LineError}
 pub use Rattle.wq_text.specs.declared.fault.ScriptError.{ScriptError}
 pub use Rattle.wq_text.specs.declared.header.Most.{Most}

@@ -1,6 +1,6 @@
 -- The layout of numbers that are in their limits.
 use Rattle.wq_text.proofs.Common.{◌≡◌, ℕ, ◌≤◌, Bool, true, false, Option, Some, None, Ok, Err, nat_le, refl, sym, ap, ◌∙◌, le-leb, leb-true, true≢false}
-use Rattle.wq_text.proofs.Common.{Layout, Kind, tested, at_most, two_of, three_of, within, in_limits, with_limits, limited}
+use Rattle.wq_text.proofs.Common.{Layout, FaultKind, tested, at_most, two_of, three_of, within, in_limits, with_limits, limited}
 use Rattle.std.specs.Coded.{le_prop}
 use Rattle.wq_words.specs.declared.layout.LayoutError.{LayoutError}
 use Rattle.wq_words.specs.declared.layout.LayoutError.TheVariants.{Items, Barriers, Senders}
@@ -23,7 +23,7 @@ three-is x y z a b c p q r = rw (p, q, r) refl
 within-is : (low n high : ℕ) (h : IsBetween low n high) → within low n high ≡ Some h
 within-is low n high h = two-is (at_most low n) (at_most n high) h.0 h.1 (at_most-is low n h.0) (at_most-is n high h.1)
 
-limited_is : (k : Kind) (l : Layout) → limited k l.items l.barriers l.senders ≡ Ok l
+limited_is : (k : FaultKind) (l : Layout) → limited k l.items l.barriers l.senders ≡ Ok l
 unfolding limited
 limited_is k l =
     let h = l.in_limits in
@@ -32,11 +32,11 @@ limited_is k l =
     (within-is 1 l.items most_items h.0) (within-is 1 l.barriers most_barriers h.1) (within-is 1 l.senders most_senders h.2) in
     ap (with_limits k l.items l.barriers l.senders) all
 
-pub limited_ok : (k : Kind) (l : Layout) (items barriers senders : ℕ) → l.items ≡ items → l.barriers ≡ barriers → l.senders ≡ senders
+pub limited_ok : (k : FaultKind) (l : Layout) (items barriers senders : ℕ) → l.items ≡ items → l.barriers ≡ barriers → l.senders ≡ senders
     → limited k items barriers senders ≡ Ok l
 limited_ok k l items barriers senders p q r = rw (← p, ← q, ← r) (limited_is k l)
 
-pub limited_err : (k : Kind) (items barriers senders : ℕ) (e : LayoutError) → IsFirstOutOfLimits items barriers senders e
+pub limited_err : (k : FaultKind) (items barriers senders : ℕ) (e : LayoutError) → IsFirstOutOfLimits items barriers senders e
     → limited k items barriers senders ≡ Err k
 unfolding limited
 limited_err k items barriers senders e out = by_limits (in_limits items barriers senders)

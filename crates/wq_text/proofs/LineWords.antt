@@ -9,7 +9,7 @@ use Rattle.wq_text.proofs.Common.{words_give, ◌>>=◌}
 use Rattle.wq_text.specs.Fault.{need}
 use Rattle.wq_text.specs.Line.{by_words}
 use Rattle.wq_text.specs.Word.{is_word}
-use Rattle.wq_text.specs.declared.fault.Kind.TheVariants as kind
+use Rattle.wq_text.specs.declared.fault.FaultKind.TheVariants as kind
 use Rattle.wq_text.specs.declared.fault.LineError.TheVariants as line_errors
 use Rattle.std.proofs.lemmas.List.Folds.{list_all-map}
 

@@ -1,13 +1,13 @@
 -- A text is spelled in one way at most, or refused for one fault at most, and never both.
 use Rattle.wq_text.proofs.Common.{◌≡◌, ℕ, ◌+◌, ◌⊎◌, List, [], ◌∷◌, ◌++◌, length, Option, Some, Result, Ok, Err, refl, sym, ap, ◌∙◌, arith, subst, inl, inr}
-use Rattle.wq_text.proofs.Common.{option_to_list, Layout, Kind, ScriptError, Stage, layout_at, Lines, LinesLead, Spells, end_fault, HasLineFault, IsRefusal}
+use Rattle.wq_text.proofs.Common.{option_to_list, Layout, FaultKind, ScriptError, Stage, layout_at, Lines, LinesLead, Spells, end_fault, HasLineFault, IsRefusal}
 use Rattle.wq_text.proofs.Common.{HasOneOutcome, same_Some}
 use Rattle.wq_text.specs.declared.header.Stage.TheVariants as stage
 use Rattle.wq_words.proofs.Lists.{none_cons}
 use Rattle.wq_words.proofs.Cases.{same_ok, same_err, ok_is_no_err}
 
 -- a header that is whole has no fault
-pub whole_or_not : (s : Stage) (layout : Layout) (k : Kind) → layout_at s ≡ Some layout → end_fault s ≡ Some k → ⊥
+pub whole_or_not : (s : Stage) (layout : Layout) (k : FaultKind) → layout_at s ≡ Some layout → end_fault s ≡ Some k → ⊥
 whole_or_not stage.Version layout k whole fault = cc
 whole_or_not _ layout k whole fault = cc
 
@@ -23,7 +23,7 @@ same_error e f p q = λ i. record { line = p i; kind = q i }
 module _ {A : Type 0} (gives : Lines A) where
   -- no line is read behind this one
   abbrev Stops : Stage → List ℕ → List (List ℕ) → Type 0
-  Stops s line behind = (behind ≡ []) ⊎ ((k : Kind) × (gives s line ≡ Err k))
+  Stops s line behind = (behind ≡ []) ⊎ ((k : FaultKind) × (gives s line ≡ Err k))
 
   -- where two readings stop, they are one
   record IsSameStop (s t : Stage) (asked others : List A) (line other : List ℕ) (behind rest : List (List ℕ)) (n m : ℕ) : Type 0 where
@@ -58,11 +58,11 @@ module _ {A : Type 0} (gives : Lines A) where
       let asking = leads.3 ∙ ap (λ (xs : List A). option_to_list leads.0.1 ++ xs) more.asking ∙ sym also in
       record { reached = more.reached; asking = asking; faulty = more.faulty; after = more.after; number = omega (arith, more.number) }
 
-  fault_stops : (s : Stage) (line : List ℕ) (behind : List (List ℕ)) (k : Kind) → HasLineFault gives s line behind k → Stops s line behind
+  fault_stops : (s : Stage) (line : List ℕ) (behind : List (List ℕ)) (k : FaultKind) → HasLineFault gives s line behind k → Stops s line behind
   fault_stops s line [] k fault = inl refl
   fault_stops s line (next ∷ more) k fault = inr (k, fault)
 
-  fault_once : (s : Stage) (line : List ℕ) (behind : List (List ℕ)) (k j : Kind) → HasLineFault gives s line behind k
+  fault_once : (s : Stage) (line : List ℕ) (behind : List (List ℕ)) (k j : FaultKind) → HasLineFault gives s line behind k
       → HasLineFault gives s line behind j → k ≡ j
   fault_once s line (next ∷ more) k j fault too = same_err (sym fault ∙ too)
   fault_once s (b ∷ bs) [] k j fault too = fault ∙ sym too

@@ -6,7 +6,7 @@ use Rattle.wq_text.proofs.Common.{RefusedFor, Stage, layout_at, Lines, LinesLead
 use Rattle.std.proofs.lemmas.Option.{none-some}
 use Rattle.std.proofs.lemmas.List.Splits.{slice_split-cons_no, slice_split_first, length-slice_split}
 use Rattle.wq_text.specs.TextLimits.{most_bytes}
-use Rattle.wq_text.specs.declared.fault.Kind.TheVariants as kind
+use Rattle.wq_text.specs.declared.fault.FaultKind.TheVariants as kind
 use Rattle.wq_text.specs.declared.fault.ParseError.{ParseError}
 use Rattle.wq_text.specs.declared.fault.ParseError.TheVariants as errors
 use Rattle.wq_text.specs.declared.header.Stage.TheVariants as stage

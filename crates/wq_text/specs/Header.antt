@@ -5,8 +5,8 @@ use borrow.Author.Tests.{leb-true}
 use Rattle.wq_words.specs.declared.layout.Layout.{Layout}
 use Rattle.wq_words.specs.Limits.{AreInLimits, IsBetween, most_items, most_barriers, most_senders}
 use Rattle.wq_words.specs.Layout.{layout_of_numbers}
-use Rattle.wq_text.specs.declared.fault.Kind.{Kind}
-use Rattle.wq_text.specs.declared.fault.Kind.TheVariants as kind
+use Rattle.wq_text.specs.declared.fault.FaultKind.{FaultKind}
+use Rattle.wq_text.specs.declared.fault.FaultKind.TheVariants as kind
 use Rattle.wq_text.specs.declared.header.Most.{Most}
 use Rattle.wq_text.specs.declared.header.Stage.{Stage}
 use Rattle.wq_text.specs.declared.header.Stage.TheVariants as stage
@@ -53,28 +53,28 @@ abbrev pub in_limits : (items barriers senders : ℕ) → Option (AreInLimits it
 in_limits items barriers senders = three_of (within 1 items most_items) (within 1 barriers most_barriers) (within 1 senders most_senders)
 
 -- the layout of these numbers, or the fault k where they are out of the limits of a queue
-abbrev pub with_limits : Kind → (items barriers senders : ℕ) → Option (AreInLimits items barriers senders) → Result Layout Kind
+abbrev pub with_limits : FaultKind → (items barriers senders : ℕ) → Option (AreInLimits items barriers senders) → Result Layout FaultKind
 with_limits k items barriers senders (Some h) = Ok (layout_of_numbers items barriers senders h)
 with_limits k items barriers senders None = Err k
 
-unfoldable pub limited : Kind → ℕ → ℕ → ℕ → Result Layout Kind
+unfoldable pub limited : FaultKind → ℕ → ℕ → ℕ → Result Layout FaultKind
 limited k items barriers senders = with_limits k items barriers senders (in_limits items barriers senders)
 
 -- what is awaited behind the line of the items: that of the senders, or, where no line names them, what is asked of the queue
-unfoldable pub behind_items : Bool → Most → ℕ → Result Stage Kind
+unfoldable pub behind_items : Bool → Most → ℕ → Result Stage FaultKind
 behind_items true most items = of_one stage.Senders (limited kind.Items items 1 1)
 behind_items false most items = of_one stage.Commands (limited kind.Items items 1 most.senders)
 
 -- what is awaited behind a header line, of at most so many items and senders: until a line names them, there is 1 of each thing, and where
 -- none does, there are as many senders as there may be
-unfoldable pub header_gives : Bool → Most → Stage → List (List ℕ) → Result Stage Kind
+unfoldable pub header_gives : Bool → Most → Stage → List (List ℕ) → Result Stage FaultKind
 header_gives seats most stage.Items ws = one (between kind.Items 1 most.items) ws >>= behind_items seats most
 header_gives seats most (stage.Senders l) ws = of_one stage.Barriers (one (between kind.Senders 1 most.senders) ws >>= λ n. limited kind.Senders l.items 1 n)
 header_gives seats most (stage.Barriers l) ws =
     of_one stage.Commands (one (between kind.Barriers 1 most_barriers) ws >>= λ n. limited kind.Barriers l.items n l.senders)
 header_gives seats most s ws = Err kind.Header
 
-abbrev pub header_line_gives : Bool → Most → Stage → List ℕ → List (List ℕ) → Result Stage Kind
+abbrev pub header_line_gives : Bool → Most → Stage → List ℕ → List (List ℕ) → Result Stage FaultKind
 header_line_gives seats most s w ws = do
   _ ← need kind.Header (awaits s w)
   header_gives seats most s ws

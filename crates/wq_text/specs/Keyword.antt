@@ -5,7 +5,7 @@ use Rattle.wq_words.specs.declared.layout.Layout.{Layout}
 use Rattle.wq_words.specs.Limits.{most_items, most_text_items}
 use Rattle.wq_text.specs.declared.command.Command.{Command}
 use Rattle.wq_text.specs.declared.command.Command.TheVariants as command
-use Rattle.wq_text.specs.declared.fault.Kind.{Kind}
+use Rattle.wq_text.specs.declared.fault.FaultKind.{FaultKind}
 use Rattle.wq_text.specs.declared.keyword.Keyword.{Keyword}
 use Rattle.wq_text.specs.declared.keyword.Keyword.TheVariants as keyword
 use Rattle.wq_text.specs.Arguments.{number, sender, item, barrier, limit, no_word, one, two, one_and_at_most}
@@ -37,7 +37,7 @@ unfoldable pub keyword_at_2 : List ℕ → Option Keyword
 keyword_at_2 w = if bytes_eq w (codes "drain") then Some keyword.DrainAndResume else keyword_at w
 
 -- the table of commands
-unfoldable pub command_gives : Layout → Keyword → List (List ℕ) → Result Command Kind
+unfoldable pub command_gives : Layout → Keyword → List (List ℕ) → Result Command FaultKind
 command_gives l keyword.Queue ws = of_two command.Queue (two (sender l) (item l) ws)
 command_gives l keyword.Run ws = of_one command.Run (one limit ws)
 command_gives l keyword.Close ws = of_none command.Close (no_word ws)

@@ -3,8 +3,8 @@ use Rattle.std.specs.Prelude.{ℕ, Bool, true, List, [], ◌∷◌, Option, Some
 use Rattle.std.specs.List.{list_all}
 use Rattle.std.specs.Str.{bytes_eq}
 use Rattle.wq_words.specs.declared.layout.Layout.{Layout}
-use Rattle.wq_text.specs.declared.fault.Kind.{Kind}
-use Rattle.wq_text.specs.declared.fault.Kind.TheVariants as kind
+use Rattle.wq_text.specs.declared.fault.FaultKind.{FaultKind}
+use Rattle.wq_text.specs.declared.fault.FaultKind.TheVariants as kind
 use Rattle.wq_text.specs.declared.header.Most.{Most}
 use Rattle.wq_text.specs.declared.header.Stage.{Stage}
 use Rattle.wq_text.specs.declared.header.Stage.TheVariants as stage
@@ -19,34 +19,34 @@ pub record Grammar (N A : Type 0) : Type 0 where
   pub names_seats : Bool
   pub most : Most
   pub names : List ℕ → List (List ℕ) → Option N
-  pub asks : Layout → N → List ℕ → List (List ℕ) → Result A Kind
+  pub asks : Layout → N → List ℕ → List (List ℕ) → Result A FaultKind
 
 -- what a line gives, by which line is awaited: what is awaited next, and what the line asks for, if anything
 abbrev pub Lines : Type 0 → Type 0
-Lines A = Stage → List ℕ → Result (Stage × Option A) Kind
+Lines A = Stage → List ℕ → Result (Stage × Option A) FaultKind
 
 -- a line that is none of the header
-abbrev pub asking_line : {N A : Type 0} → Grammar N A → Stage → List ℕ → List (List ℕ) → Result (Stage × Option A) Kind
+abbrev pub asking_line : {N A : Type 0} → Grammar N A → Stage → List ℕ → List (List ℕ) → Result (Stage × Option A) FaultKind
 asking_line g s w ws = do
   name ← found kind.Word (g.names w ws)
   layout ← found kind.Header (layout_at s)
   of_one (λ a. (stage.Commands layout, Some a)) (g.asks layout name w ws)
 
-abbrev pub by_first_word : {N A : Type 0} → Grammar N A → Stage → List ℕ → List (List ℕ) → Result (Stage × Option A) Kind
+abbrev pub by_first_word : {N A : Type 0} → Grammar N A → Stage → List ℕ → List (List ℕ) → Result (Stage × Option A) FaultKind
 by_first_word g s w ws = if is_header w then of_one (λ next. (next, None)) (header_line_gives g.names_seats g.most s w ws) else asking_line g s w ws
 
-abbrev pub by_words : {N A : Type 0} → Grammar N A → Stage → List (List ℕ) → Result (Stage × Option A) Kind
+abbrev pub by_words : {N A : Type 0} → Grammar N A → Stage → List (List ℕ) → Result (Stage × Option A) FaultKind
 by_words g s [] = Err kind.Word
 by_words g s (w ∷ ws) = by_first_word g s w ws
 
 -- the words of a line that is not passed over
-unfoldable pub words_give : {N A : Type 0} → Grammar N A → Stage → List (List ℕ) → Result (Stage × Option A) Kind
+unfoldable pub words_give : {N A : Type 0} → Grammar N A → Stage → List (List ℕ) → Result (Stage × Option A) FaultKind
 words_give g s ws = do
   _ ← need kind.Space (list_all is_word ws)
   by_words g s ws
 
 -- a line that is not passed over
-unfoldable pub plain_line_gives : {N A : Type 0} → Grammar N A → Stage → List ℕ → Result (Stage × Option A) Kind
+unfoldable pub plain_line_gives : {N A : Type 0} → Grammar N A → Stage → List ℕ → Result (Stage × Option A) FaultKind
 plain_line_gives g s line = do
   _ ← need kind.Bytes (list_all is_plain line)
   words_give g s (words line)

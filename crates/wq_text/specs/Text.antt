@@ -2,8 +2,8 @@
 use Rattle.std.specs.Prelude.{◌≡◌, ℕ, ◌+◌, ◌<◌, ◌≤◌, ◌⊎◌, List, [], ◌∷◌, ◌++◌, length, Option, Some, None, Result, Ok, Err}
 use Rattle.std.specs.Option.{option_to_list}
 use Rattle.wq_words.specs.declared.layout.Layout.{Layout}
-use Rattle.wq_text.specs.declared.fault.Kind.{Kind}
-use Rattle.wq_text.specs.declared.fault.Kind.TheVariants as kind
+use Rattle.wq_text.specs.declared.fault.FaultKind.{FaultKind}
+use Rattle.wq_text.specs.declared.fault.FaultKind.TheVariants as kind
 use Rattle.wq_text.specs.declared.fault.ScriptError.{ScriptError}
 use Rattle.wq_text.specs.declared.header.Stage.{Stage}
 use Rattle.wq_text.specs.declared.header.Stage.TheVariants as stage
@@ -28,14 +28,14 @@ pub record Spells {A : Type 0} (gives : Lines A) (text : List ℕ) (layout : Lay
   pub whole : layout_at reached ≡ Some layout
 
 -- what is wrong where a text ends without a whole header
-abbrev pub end_fault : Stage → Option Kind
+abbrev pub end_fault : Stage → Option FaultKind
 end_fault stage.Version = Some kind.Version
 end_fault stage.Items = Some kind.Header
 end_fault (stage.Senders layout) = Some kind.Header
 end_fault s = None
 
 -- the fault k of a line, which parts follow; the last part is no line, and is to be empty
-abbrev pub HasLineFault : {A : Type 0} → Lines A → Stage → List ℕ → List (List ℕ) → Kind → Type 0
+abbrev pub HasLineFault : {A : Type 0} → Lines A → Stage → List ℕ → List (List ℕ) → FaultKind → Type 0
 HasLineFault gives s line (next ∷ more) k = gives s line ≡ Err k
 HasLineFault gives s (b ∷ bs) [] k = k ≡ kind.Cut
 HasLineFault gives s [] [] k = end_fault s ≡ Some k

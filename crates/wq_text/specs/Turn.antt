@@ -10,7 +10,7 @@ use Rattle.wq_core.specs.declared.step.Seat.{Seat}
 use Rattle.wq_core.specs.declared.step.Seat.TheVariants as seat
 use Rattle.wq_core.specs.declared.step.Step.{Step}
 use Rattle.wq_core.specs.declared.step.Step.TheVariants as step
-use Rattle.wq_text.specs.declared.fault.Kind.{Kind}
+use Rattle.wq_text.specs.declared.fault.FaultKind.{FaultKind}
 use Rattle.wq_text.specs.declared.turn.Action.{Action}
 use Rattle.wq_text.specs.declared.turn.Action.TheVariants as action
 use Rattle.wq_text.specs.declared.turn.OwnersStep.{OwnersStep}
@@ -32,16 +32,16 @@ abbrev pub after_b : List ℕ → Option (List ℕ)
 after_b [] = None
 after_b (b ∷ bs) = if b == 98 then Some bs else None
 
-abbrev pub barrier_or_item : Layout → List ℕ → Option (List ℕ) → Result ℕ Kind
+abbrev pub barrier_or_item : Layout → List ℕ → Option (List ℕ) → Result ℕ FaultKind
 barrier_or_item l w (Some digits) = of_one (barrier_number l) (barrier l digits)
 barrier_or_item l w None = item l w
 
 -- a number of the queue: an item, b and a barrier, or stop
-unfoldable pub number_of_queue : Layout → List ℕ → Result ℕ Kind
+unfoldable pub number_of_queue : Layout → List ℕ → Result ℕ FaultKind
 number_of_queue l w = if bytes_eq w (codes "stop") then Ok (stop_number l) else barrier_or_item l w (after_b w)
 
 -- where a link leads: to a number of the queue, or to none
-unfoldable pub link_of : Layout → List ℕ → Result (Option ℕ) Kind
+unfoldable pub link_of : Layout → List ℕ → Result (Option ℕ) FaultKind
 link_of l w = if bytes_eq w (codes "end") then Ok None else of_one Some (number_of_queue l w)
 
 -- the steps of the owner, those of a sender, and the causes of giving back
@@ -105,12 +105,12 @@ action_at_2 w ws =
     else senders_action_2 (nth_word 0 ws) (nth_word (length ws - 1) ws)
 
 -- a sender alone, or a sender and a number of the queue, with so many words behind the step's
-abbrev pub seat_alone : Layout → List ℕ → List (List ℕ) → Result ℕ Kind
+abbrev pub seat_alone : Layout → List ℕ → List (List ℕ) → Result ℕ FaultKind
 seat_alone l w ws = do
   _ ← no_word ws
   sender l w
 
-abbrev pub seat_and_number : Layout → List ℕ → List (List ℕ) → Result (ℕ × ℕ) Kind
+abbrev pub seat_and_number : Layout → List ℕ → List (List ℕ) → Result (ℕ × ℕ) FaultKind
 seat_and_number l w ws = do
   v ← one_word ws
   s ← sender l w
@@ -118,7 +118,7 @@ seat_and_number l w ws = do
   Ok (s, k)
 
 -- a number of the queue and where its link leads, word by word from the left
-abbrev pub number_and_link : Layout → List (List ℕ) → Result (ℕ × Option ℕ) Kind
+abbrev pub number_and_link : Layout → List (List ℕ) → Result (ℕ × Option ℕ) FaultKind
 number_and_link l ws = do
   w ← two_words ws
   k ← number_of_queue l w.0
@@ -146,7 +146,7 @@ owners_step owners.End = step.End
 owners_step owners.Rest = step.Rest
 
 -- the table of steps, by the first word and the words behind the second
-unfoldable pub turn_gives : Layout → Action → List ℕ → List (List ℕ) → Result Turn Kind
+unfoldable pub turn_gives : Layout → Action → List ℕ → List (List ℕ) → Result Turn FaultKind
 turn_gives l (action.Sender kind) w ws = of_two (λ s k. (seat.Sender s, senders_step kind k)) (seat_and_number l w ws)
 turn_gives l action.Look w ws = of_one (λ s. (seat.Sender s, step.Look)) (seat_alone l w ws)
 turn_gives l (action.Back cause) w ws = of_two (λ s k. (seat.Sender s, step.Back k cause)) (seat_and_number l w (without_last ws))

@@ -6,7 +6,7 @@ ghost use Rattle.wq_text.specs.Fault.{LineGives, LineGivesAs};
 ghost use Rattle.wq_text.specs.Arguments.{number, between, below, sender, item, barrier, limit, no_word, one_word, two_words, word_and_at_most, one, two, each, one_and_at_most};
 
 use crate::command::Follow;
-use crate::fault::{Kind, LineError};
+use crate::fault::{FaultKind, LineError};
 use crate::word::number_of;
 use wq_words::Layout;
 
@@ -19,13 +19,18 @@ pub(crate) fn number(word: &str) -> Result<u64, LineError>
 {
     match number_of(word) {
         Some(number) => Ok(number),
-        None => Err(LineError::Fault(Kind::Number)),
+        None => Err(LineError::Fault(FaultKind::Number)),
     }
 }
 
 // A number from `low` to `high`, the one word that stands there.
 #[tactic(auto, unfolding(crate::specs::Arguments::between))]
-pub(crate) fn one_between(kind: Kind, low: u32, high: u32, words: &[&str]) -> Result<u32, LineError>
+pub(crate) fn one_between(
+    kind: FaultKind,
+    low: u32,
+    high: u32,
+    words: &[&str],
+) -> Result<u32, LineError>
     ensures exact { LineGives result (one (between kind low high) (map (λ w. w.now) words.now)) }
     ensures within { IfOk result (λ n. IsBetween low n high) }
 {
@@ -39,7 +44,7 @@ pub(crate) fn one_between(kind: Kind, low: u32, high: u32, words: &[&str]) -> Re
 
 // A number below `bound`.
 #[tactic(auto, unfolding(crate::specs::Arguments::below))]
-fn below(kind: Kind, bound: u32, word: &str) -> Result<u32, LineError>
+fn below(kind: FaultKind, bound: u32, word: &str) -> Result<u32, LineError>
     ensures exact { LineGives result (below kind bound word.now) }
     ensures within { IfOk result (λ n. n < bound) }
     ensures memory { result ≢ Err Memory }
@@ -56,7 +61,7 @@ pub(crate) fn sender(layout: Layout, word: &str) -> Result<u32, LineError>
     ensures within { IfOk result (λ n. n < layout.senders) }
     ensures memory { result ≢ Err Memory }
 {
-    below(Kind::Sender, layout.senders, word)
+    below(FaultKind::Sender, layout.senders, word)
 }
 
 /// An item of the queue.
@@ -68,7 +73,7 @@ pub fn item(layout: Layout, word: &str) -> Result<u32, LineError>
     ensures within { IfOk result (λ n. n < layout.items) }
     ensures memory { result ≢ Err Memory }
 {
-    below(Kind::Item, layout.items, word)
+    below(FaultKind::Item, layout.items, word)
 }
 
 pub(crate) fn barrier(layout: Layout, word: &str) -> Result<u32, LineError>
@@ -76,14 +81,14 @@ pub(crate) fn barrier(layout: Layout, word: &str) -> Result<u32, LineError>
     ensures within { IfOk result (λ n. n < layout.barriers) }
     ensures memory { result ≢ Err Memory }
 {
-    below(Kind::Barrier, layout.barriers, word)
+    below(FaultKind::Barrier, layout.barriers, word)
 }
 
 // A number of executions, the one word that stands there.
 pub(crate) fn one_limit(words: &[&str]) -> Result<u32, LineError>
     ensures { LineGives result (one limit (map (λ w. w.now) words.now)) }
 {
-    one_between(Kind::Limit, 1, MOST_EXECUTIONS, words)
+    one_between(FaultKind::Limit, 1, MOST_EXECUTIONS, words)
 }
 
 // An item, the one word that stands there.
@@ -105,7 +110,7 @@ pub fn no_word(words: &[&str]) -> Result<(), LineError>
 {
     match words {
         [] => Ok(()),
-        _ => Err(LineError::Fault(Kind::Count)),
+        _ => Err(LineError::Fault(FaultKind::Count)),
     }
 }
 
@@ -119,7 +124,7 @@ pub fn one_word<'a>(words: &[&'a str]) -> Result<&'a str, LineError>
 {
     match words {
         [word] => Ok(word),
-        _ => Err(LineError::Fault(Kind::Count)),
+        _ => Err(LineError::Fault(FaultKind::Count)),
     }
 }
 
@@ -128,7 +133,7 @@ pub(crate) fn two_words<'a>(words: &[&'a str]) -> Result<(&'a str, &'a str), Lin
 {
     match words {
         [first, second] => Ok((first, second)),
-        _ => Err(LineError::Fault(Kind::Count)),
+        _ => Err(LineError::Fault(FaultKind::Count)),
     }
 }
 
@@ -139,10 +144,10 @@ fn word_and_at_most_four<'a, 'b>(
     ensures few { IfOk result (λ w. length w.1.now ≤ 4) }
 {
     let Some((first, others)) = words.split_first() else {
-        return Err(LineError::Fault(Kind::Count));
+        return Err(LineError::Fault(FaultKind::Count));
     };
     if others.len() > 4 {
-        return Err(LineError::Fault(Kind::Count));
+        return Err(LineError::Fault(FaultKind::Count));
     }
     Ok((*first, others))
 }
@@ -150,7 +155,7 @@ fn word_and_at_most_four<'a, 'b>(
 // A sender, and a number below `bound`.
 fn sender_and_below(
     layout: Layout,
-    kind: Kind,
+    kind: FaultKind,
     bound: u32,
     words: &[&str],
 ) -> Result<(u32, u32), LineError>
@@ -168,7 +173,7 @@ pub(crate) fn sender_and_item(layout: Layout, words: &[&str]) -> Result<(u32, u3
     ensures exact { LineGives result (two (sender layout) (item layout) (map (λ w. w.now) words.now)) }
     ensures within { IfOk result (λ n. (n.0 < layout.senders) × (n.1 < layout.items)) }
 {
-    sender_and_below(layout, Kind::Item, layout.items, words)
+    sender_and_below(layout, FaultKind::Item, layout.items, words)
 }
 
 // A sender and a barrier.
@@ -176,7 +181,7 @@ pub(crate) fn sender_and_barrier(layout: Layout, words: &[&str]) -> Result<(u32,
     ensures exact { LineGives result (two (sender layout) (barrier layout) (map (λ w. w.now) words.now)) }
     ensures within { IfOk result (λ n. (n.0 < layout.senders) × (n.1 < layout.barriers)) }
 {
-    sender_and_below(layout, Kind::Barrier, layout.barriers, words)
+    sender_and_below(layout, FaultKind::Barrier, layout.barriers, words)
 }
 
 // An item and a delay in ticks.

@@ -8,7 +8,7 @@ use thiserror::Error;
 
 /// What is wrong with a line, in the order in which it is tested. It is written as it is named.
 #[derive(Clone, Copy, Debug, PartialEq, Eq)]
-pub enum Kind {
+pub enum FaultKind {
     /// A script or a schedule over 1,048,576 bytes, or a line of a recording over 4,096.
     Size,
     /// The first line names no version of the language.
@@ -44,7 +44,7 @@ pub enum Kind {
     Limit,
 }
 
-impl fmt::Display for Kind {
+impl fmt::Display for FaultKind {
     fn fmt<W: fmt::Write>(&self, f: &mut fmt::Formatter<W>) -> fmt::Result {
         write!(f, "{self:?}")
     }
@@ -57,7 +57,7 @@ pub struct ScriptError {
     /// The line, counted from 1.
     pub line: u64,
     /// The first thing that is wrong with it.
-    pub kind: Kind,
+    pub kind: FaultKind,
 }
 
 /// Why a text could not be read.
@@ -79,7 +79,7 @@ pub enum LineError {
     Memory,
     /// This is the first thing that is wrong with it.
     #[error("{0}")]
-    Fault(Kind),
+    Fault(FaultKind),
 }
 
 impl From<AllocError> for LineError {

@@ -6,7 +6,7 @@ ghost use Rattle.wq_text.specs.Sound.{KeepsHeader};
 ghost use Rattle.wq_text.specs.declared.header.Stage.TheVariants.{Items};
 
 use crate::arguments::one_between;
-use crate::fault::{Kind, LineError};
+use crate::fault::{FaultKind, LineError};
 use wq_words::{Layout, MOST_BARRIERS};
 
 /// How many items and senders a kind of text may name at most.
@@ -54,7 +54,7 @@ pub(crate) fn is_header(word: &str) -> bool
 }
 
 // The layout of these numbers, or the fault `kind`.
-fn limited(kind: Kind, items: u32, barriers: u32, senders: u32) -> Result<Layout, LineError>
+fn limited(kind: FaultKind, items: u32, barriers: u32, senders: u32) -> Result<Layout, LineError>
     ensures exact { LineGives result (limited kind items barriers senders) }
     ensures numbers { IfOk result (λ layout. layout.senders ≡ senders) }
 {
@@ -71,9 +71,9 @@ fn behind_items(names_seats: bool, most: Most, items: u32) -> Result<Stage, Line
     ensures sound { IfOk result (KeepsHeader most.senders Items) }
 {
     if names_seats {
-        limited(Kind::Items, items, 1, 1).map(Stage::Senders)
+        limited(FaultKind::Items, items, 1, 1).map(Stage::Senders)
     } else {
-        limited(Kind::Items, items, 1, most.senders).map(Stage::Commands)
+        limited(FaultKind::Items, items, 1, most.senders).map(Stage::Commands)
     }
 }
 
@@ -91,17 +91,19 @@ pub(crate) fn header_line(
 {
     match (stage, first) {
         (Stage::Items, "items") => {
-            let items = one_between(Kind::Items, 1, most.items, others)?;
+            let items = one_between(FaultKind::Items, 1, most.items, others)?;
             behind_items(names_seats, most, items)
         }
         (Stage::Senders(layout), "senders") => {
-            let senders = one_between(Kind::Senders, 1, most.senders, others)?;
-            limited(Kind::Senders, layout.items, 1, senders).map(Stage::Barriers)
+            let senders = one_between(FaultKind::Senders, 1, most.senders, others)?;
+            limited(FaultKind::Senders, layout.items, 1, senders).map(Stage::Barriers)
         }
         (Stage::Barriers(layout), "barriers") => {
-            let barriers = one_between(Kind::Barriers, 1, MOST_BARRIERS, others)?;
-            limited(Kind::Barriers, layout.items, barriers, layout.senders).map(Stage::Commands)
+            let barriers = one_between(FaultKind::Barriers, 1, MOST_BARRIERS, others)?;
+            limited(FaultKind::Barriers, layout.items, barriers, layout.senders).map(
+                Stage::Commands,
+            )
         }
-        _ => Err(LineError::Fault(Kind::Header)),
+        _ => Err(LineError::Fault(FaultKind::Header)),
     }
 }

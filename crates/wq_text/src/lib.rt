@@ -18,7 +18,7 @@ mod word;
 
 pub use arguments::{item, no_word, one_word};
 pub use command::{Command, Follow};
-pub use fault::{Kind, LineError, ParseError, ScriptError};
+pub use fault::{FaultKind, LineError, ParseError, ScriptError};
 pub use header::{Most, Stage};
 pub use line::{Language, read_line};
 pub use schedule::Schedule;

@@ -8,7 +8,7 @@ ghost use Rattle.wq_text.specs.Fault.{LineGives};
 ghost use Rattle.wq_text.specs.Line.{Grammar, asking_line, by_first_word, words_give, plain_line_gives, line_gives};
 ghost use Rattle.wq_text.specs.Sound.{KeepsSound};
 
-use crate::fault::{Kind, LineError};
+use crate::fault::{FaultKind, LineError};
 use crate::header::{Most, Stage, header_line, is_header};
 use crate::word::{few_words, words_of};
 use std::alloc::Global;
@@ -64,10 +64,10 @@ fn asking_line<L: Language>(
     ensures sound { IfOk result (λ given. KeepsSound L.grammar.most.senders L.fits stage given.0 given.1) }
 {
     let Some(name) = L::name(first, others) else {
-        return Err(LineError::Fault(Kind::Word));
+        return Err(LineError::Fault(FaultKind::Word));
     };
     let Some(layout) = stage.layout() else {
-        return Err(LineError::Fault(Kind::Header));
+        return Err(LineError::Fault(FaultKind::Header));
     };
     let asked = L::ask(layout, name, first, others)?;
     Ok((Stage::Commands(layout), Some(asked)))
@@ -105,10 +105,10 @@ fn words_line<L: Language>(
     ensures sound { IfOk result (λ given. KeepsSound L.grammar.most.senders L.fits stage given.0 given.1) }
 {
     if !are_words(words) {
-        return Err(LineError::Fault(Kind::Space));
+        return Err(LineError::Fault(FaultKind::Space));
     }
     let Some((first, others)) = words.split_first() else {
-        return Err(LineError::Fault(Kind::Word));
+        return Err(LineError::Fault(FaultKind::Word));
     };
     first_word_line::<L>(stage, first, others)
 }
@@ -142,7 +142,7 @@ fn plain_line<L: Language>(
     ensures sound { IfOk result (λ given. KeepsSound L.grammar.most.senders L.fits stage given.0 given.1) }
 {
     let Some(text) = plain_text(line) else {
-        return Err(LineError::Fault(Kind::Bytes));
+        return Err(LineError::Fault(FaultKind::Bytes));
     };
     if let Some(words) = few_words(alloc, text) {
         return words_line::<L>(stage, &words);
@@ -154,7 +154,7 @@ fn plain_line<L: Language>(
 /// Which line is awaited behind this one, and what this one asks for.
 ///
 /// # Errors
-/// `Fault` with the first thing that is wrong with the line, in the order of `Kind`, or `Memory` where memory for its words was
+/// `Fault` with the first thing that is wrong with the line, in the order of `FaultKind`, or `Memory` where memory for its words was
 /// refused.
 #[tactic(auto, using(crate::proofs::Sound::keeps_none, crate::proofs::Sound::keeps_version))]
 pub fn read_line<L: Language>(
@@ -170,7 +170,7 @@ pub fn read_line<L: Language>(
             if L::is_version(line) {
                 Ok((Stage::Items, None))
             } else {
-                Err(LineError::Fault(Kind::Version))
+                Err(LineError::Fault(FaultKind::Version))
             }
         }
         _ => {

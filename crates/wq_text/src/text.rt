@@ -10,7 +10,7 @@ ghost use Rattle.wq_text.specs.Sound.{KeepsSound, AreSound};
 ghost use Rattle.wq_text.specs.Version.{begins_with_line};
 ghost use Rattle.wq_text.specs.Word.{parts};
 
-use crate::fault::{Kind, LineError, ParseError, ScriptError};
+use crate::fault::{FaultKind, LineError, ParseError, ScriptError};
 use crate::header::Stage;
 use crate::line::{Language, read_line};
 use std::alloc::{AllocError, Global};
@@ -19,7 +19,7 @@ use wq_words::Layout;
 /// How many bytes a script or a schedule may have.
 pub const MOST_BYTES: usize = 1_048_576;
 
-fn refused(line: u64, kind: Kind) -> ParseError
+fn refused(line: u64, kind: FaultKind) -> ParseError
     ensures { result ≡ ParseError.Refused (record { line = line; kind = kind }) }
 {
     ParseError::Refused(ScriptError { line, kind })
@@ -91,8 +91,8 @@ pub fn layout_at_end(number: u64, stage: Stage) -> Result<Layout, ParseError>
     ensures memory { result ≢ Err ParseError.Memory }
 {
     match stage {
-        Stage::Version => Err(refused(number, Kind::Version)),
-        Stage::Items | Stage::Senders(_) => Err(refused(number, Kind::Header)),
+        Stage::Version => Err(refused(number, FaultKind::Version)),
+        Stage::Items | Stage::Senders(_) => Err(refused(number, FaultKind::Header)),
         Stage::Barriers(layout) | Stage::Commands(layout) => Ok(layout),
     }
 }
@@ -108,7 +108,7 @@ pub(crate) fn read<L: Language>(
     ensures few { IfOk result (λ x. length x.1.items ≤ most_bytes) }
 {
     if text.len() > MOST_BYTES {
-        return Err(refused(1, Kind::Size));
+        return Err(refused(1, FaultKind::Size));
     }
     let mut stage = Stage::Version;
     let mut asked = Vec::new(alloc);
@@ -122,7 +122,7 @@ pub(crate) fn read<L: Language>(
         rest = after;
     }
     if !rest.is_empty() {
-        return Err(refused(number, Kind::Cut));
+        return Err(refused(number, FaultKind::Cut));
     }
     let layout = layout_at_end(number, stage)?;
     Ok((layout, asked))

@@ -19,7 +19,7 @@ pub use Rattle.wq_worker.specs.State.{WorkerState, Moves}
 pub use Rattle.wq_worker.specs.Follow.{contended_of}
 pub use Rattle.wq_worker.specs.Resting.{rest_events, IsReady, IsUnready, owed, nothing, HasNoneLeft, LeavesWork}
 pub use Rattle.wq_worker.specs.Seats.{taking, Adds, NothingWaits, at_take, at_all, taking_of}
-pub use Rattle.wq_worker.proofs.Owned.{owner_of_both, owner_grows, quiet_stays, quiet_none, IsQuiet, OwnerAdds}
+pub use Rattle.wq_worker.proofs.Owned.{owner_of_both, owner_grows, quiet_stays, quiet_none, LeavesExecutions, OwnerAdds}
 pub use Rattle.wq_turn.specs.declared.runner.Progress.TheVariants.{Ended, Owed, Done}
 pub use Rattle.wq_turn.specs.Steps.{Pauses, limited, owes, owed_before, WorksOn, StepRow, still, ready, unready, run, rest, Finishes, rested, completed}
 pub use Rattle.wq_turn.specs.Steps.{IsDue, SettlesOne, RunsOne, MakesProgress}

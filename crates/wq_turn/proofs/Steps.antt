@@ -5,7 +5,7 @@ use Rattle.wq_worker.proofs.State.{quiet_taking, ended_taking}
 use Rattle.wq_turn.proofs.Common.{◌≡◌, ℕ, ◌+◌, ◌≤◌, Bool, true, false, List, [], ◌∷◌, ◌++◌, length, Some, None, Option, sym, refl, ap, ◌∙◌, subst, add-zero}
 use Rattle.wq_turn.proofs.Common.{arith, length-append, filter_map-append, Event, End, Rest, ended, IsRunning, ended_by, shut, next_of, Ran, Item, Barrier}
 use Rattle.wq_turn.proofs.Common.{Stop, Nothing, Owing, ended_by_answer, WorkerState, Moves, contended_of, rest_events, IsUnready, owed, nothing, HasNoneLeft}
-use Rattle.wq_turn.proofs.Common.{taking, Adds, taking_of, owner_of_both, IsQuiet, OwnerAdds, Pauses, limited, owed_before, WorksOn, StepRow, still, ready}
+use Rattle.wq_turn.proofs.Common.{taking, Adds, taking_of, owner_of_both, LeavesExecutions, OwnerAdds, Pauses, limited, owed_before, WorksOn, StepRow, still, ready}
 use Rattle.wq_turn.proofs.Common.{unready, run, rest, Finishes, rested, completed, worker_id}
 use Rattle.wq_turn.specs.Steps.{owes as owes_one, EndsWithin, EndsJust}
 use Rattle.wq_turn.proofs.Refused.{next_kept}
@@ -15,7 +15,7 @@ use Rattle.wq_turn.proofs.Moved.{works_keep}
 ended_more : (es v w : List Event) (n : ℕ) → length (ended es) ≡ n → OwnerAdds es v w → EndsJust n v w
 ended_more es v w n is adds = ap (length {A = ℕ}) adds.ended_is ∙ (length-append (ended v) (ended es) ∙ ap (λ (k : ℕ). length (ended v) + k) is)
 
-ended_quiet : (es : List Event) → IsQuiet es → length (ended es) ≡ 0
+ended_quiet : (es : List Event) → LeavesExecutions es → length (ended es) ≡ 0
 ended_quiet es quiet = ap (length {A = ℕ}) quiet.ended_none
 
 quiet_rest : (rests : Bool) → length (ended (rest_events rests)) ≡ 0

@@ -25,8 +25,8 @@ module _ {V : Type 0} where
   seat_at b old is = ap (λ (z : Bool). if z then owner_seat else old.known.number) is
 
   -- what a seat of the pair brought is more by these
-  abbrev Brings : KnownValuePair V → KnownValuePair V → List (Option V) → ℕ → Type 0
-  Brings old new more s = brought_in s new ≡ brought_in s old ++ more
+  abbrev BringsMore : KnownValuePair V → KnownValuePair V → List (Option V) → ℕ → Type 0
+  BringsMore old new more s = brought_in s new ≡ brought_in s old ++ more
 
   sender_learnt : (old new : KnownValuePair V) → Learnt (owner_of old) (owner_of new) → Learnt (sender_of old) (sender_of new)
   sender_learnt old new l = record { more = l.more; was_whole = l.was_whole; as_many = l.as_many }
@@ -52,9 +52,9 @@ module _ {V : Type 0} where
   dealt_chain k v tries a old new low is_shut answers value kept others = go a answers value
     where
       brings : (a : ValueAnswer V) → Chains k (answer_of a) (pair_owner old.known) (pair_owner new.known) → ChainsOrReturns k v a (owner_of new)
-          → Brings old new (queued_value v a) (queueing_seat old.known.seen old.known.number)
+          → BringsMore old new (queued_value v a) (queueing_seat old.known.seen old.known.number)
       brings a answers value =
-          subst (Brings old new (queued_value v a)) (sym (seat_at true old is_shut))
+          subst (BringsMore old new (queued_value v a)) (sym (seat_at true old is_shut))
           (chained_own k v a (owner_of old) (owner_of new) refl answers value kept.learnt)
 
       go : (a : ValueAnswer V) → Chains k (answer_of a) (pair_owner old.known) (pair_owner new.known) → ChainsOrReturns k v a (owner_of new)
@@ -91,9 +91,9 @@ module _ {V : Type 0} where
   dealt_send k v tries a old new low opens answers value kept others = go a answers value
     where
       brings : (a : ValueAnswer V) → Answers k tries (answer_of a) (pair_sender old.known) (pair_sender new.known) → BringsOrReturns k v a (sender_of new)
-          → Brings old new (queued_value v a) (queueing_seat old.known.seen old.known.number)
+          → BringsMore old new (queued_value v a) (queueing_seat old.known.seen old.known.number)
       brings a answers value =
-          subst (Brings old new (queued_value v a)) (sym (seat_at false old opens))
+          subst (BringsMore old new (queued_value v a)) (sym (seat_at false old opens))
           (brings_own k tries v a (sender_of old) (sender_of new) answers value (sender_learnt old new kept.learnt))
 
       go : (a : ValueAnswer V) → Answers k tries (answer_of a) (pair_sender old.known) (pair_sender new.known) → BringsOrReturns k v a (sender_of new)

@@ -18,9 +18,9 @@ pub struct ValueFollow<V> {
 }
 
 impl<V> Model for ValueFollow<V> {
-    ghost use Rattle.wq_value_worker.specs.Asked.{Asked, asked_view, AreAsked};
+    ghost use Rattle.wq_value_worker.specs.Asked.{AskedPairs, asked_view, AreAsked};
 
-    ghost Value = { Asked V };
+    ghost Value = { AskedPairs V };
 
     ghost view = { asked_view };
 
@@ -106,7 +106,7 @@ impl<V: Drop> ValueFollow<V> {
     }
 
     // Puts one in front of the others again.
-    pub(crate) fn put_back(&mut self, item: u32, value: V)
+    pub(crate) fn put_in_front(&mut self, item: u32, value: V)
         requires room { length self.old.pairs < 4 }
         ensures first { self.new.pairs ≡ (item, value) ∷ self.old.pairs }
     {

@@ -68,7 +68,7 @@ pub(crate) fn queue_pairs<V: Drop, W: ValueWork<V>>(
             Dealt::Queued => {}
             Dealt::Returned(same) => work.returned(item, same),
             Dealt::Contended(same) => {
-                left.put_back(item, same);
+                left.put_in_front(item, same);
                 return false;
             }
         }

@@ -85,7 +85,7 @@ impl<V: Drop, W: ValueWork<V>> ValueWorker<V, W> {
     ) -> ValueWorker<V, W>
         requires one { sender.known.queue ≡ owner.known.queue }
         requires tries { 0 < tries }
-        requires unbegun { begun owner.known.seen ≡ [] }
+        requires none_begun { begun owner.known.seen ≡ [] }
         requires unrun { W.log work ≡ [] }
         ensures parts { IsMadeOf owner.known sender.known work tries result.worker }
         ensures unqueued { result.unqueued ≡ [] }

@@ -9,7 +9,7 @@ use Rattle.wq_words.proofs.Growing.{count_by_push, filter_map_push_some, take_mo
 use Rattle.wq_words.proofs.Growing.{take_length}
 use Rattle.wq_words.proofs.Legal.{legal_front, legal_induction}
 use Rattle.wq_words.proofs.Prefixes.{prefix_length, prefix_whole}
-use Rattle.wq_words.proofs.Order.{IsInOrder, in_order}
+use Rattle.wq_words.proofs.Order.{RunsInOrder, in_order}
 use Rattle.wq_words.proofs.Keepers.{held_bit, kept}
 use Rattle.wq_words.proofs.Closed.{closed_shuts}
 use Rattle.wq_words.proofs.Drains.{no_push_within_drain}
@@ -28,7 +28,7 @@ counted p (y ∷ xs) (suc i) (suc n) x at is lt = omega (arith, sum_by-cons (λ 
 pub legal_take : (layout : Layout) (h : List Event) (n : ℕ) → IsLegal layout h → IsLegal layout (take n h)
 legal_take layout h n legal = legal_front layout (take n h) (drop n h) (rw take-append-drop legal)
 
-complete_in_order : (h : List Event) → IsInOrder h → HasRunOut h → (ended h ≡ begun h) × (begun h ≡ accepted h)
+complete_in_order : (h : List Event) → RunsInOrder h → HasRunOut h → (ended h ≡ begun h) × (begun h ≡ accepted h)
 complete_in_order h o done =
     let e = prefix_length (ended h) (begun h) o.ended_first in
     let b = prefix_length (begun h) (accepted h) o.begun_first in
@@ -151,7 +151,7 @@ same_at : (xs ys : List ℕ) (i j k : ℕ) → IsPrefix xs ys → slice_get xs i
 same_at xs ys i j k p a b = cc (slice_get-prefix xs ys i j p a, b)
 
 module _ (layout : Layout) (h : List Event) (legal : IsLegal layout h) where
-  order_at : (n : ℕ) → IsInOrder (take n h)
+  order_at : (n : ℕ) → RunsInOrder (take n h)
   order_at n = in_order layout (take n h) (legal_take layout h n legal)
 
   -- the Begin at a place makes one more begun

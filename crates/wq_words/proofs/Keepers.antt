@@ -5,7 +5,7 @@ use Rattle.wq_words.proofs.Common.{accepted, begun, sets_pending, clears_pending
 use Rattle.wq_words.proofs.Common.{Owner, taken_over, keeper, keeper_after, Drain, fold_push, ne_eqb, sym, ◌≢◌}
 use Rattle.wq_words.specs.declared.event.Why.{Why}
 use Rattle.wq_words.proofs.Prefixes.{prefix_step}
-use Rattle.wq_words.proofs.Order.{IsInOrder, in_order}
+use Rattle.wq_words.proofs.Order.{RunsInOrder, in_order}
 use Rattle.wq_words.proofs.Growing.{growing, count_by_push}
 use Rattle.wq_words.proofs.Legal.{legal_induction}
 use Rattle.wq_words.proofs.Appended.{at_most_one}
@@ -19,8 +19,8 @@ abbrev pub Spares : ℕ → Event → Type 0
 Spares k e = (j : ℕ) (x : Keeper) → j ≢ k → keeper_after j x e ≡ x
 
 -- the event is about k, and leaves it with y
-abbrev pub Gives : ℕ → Event → Keeper → Type 0
-Gives k e y = Spares k e × ((x : Keeper) → keeper_after k x e ≡ y)
+abbrev pub LeavesWith : ℕ → Event → Keeper → Type 0
+LeavesWith k e y = Spares k e × ((x : Keeper) → keeper_after k x e ≡ y)
 
 itself : (k : ℕ) → (k == k) ≡ true
 itself k = eq-eqb k k refl
@@ -28,19 +28,19 @@ itself k = eq-eqb k k refl
 apart : (k j : ℕ) → j ≢ k → (k == j) ≡ false
 apart k j ne = ne_eqb k j (λ e. ne (sym e))
 
-pub gives_hold : (s k : ℕ) → Gives k (Hold s k) (Sender s)
+pub gives_hold : (s k : ℕ) → LeavesWith k (Hold s k) (Sender s)
 gives_hold s k = (λ j x ne. rw (apart k j ne) refl, λ x. rw (itself k) refl)
 
-pub gives_push : (s k : ℕ) → Gives k (Push s k) Listed
+pub gives_push : (s k : ℕ) → LeavesWith k (Push s k) Listed
 gives_push s k = (λ j x ne. rw (apart k j ne) refl, λ x. rw (itself k) refl)
 
-pub gives_back : (s k : ℕ) (why : Why) → Gives k (Back s k why) Home
+pub gives_back : (s k : ℕ) (why : Why) → LeavesWith k (Back s k why) Home
 gives_back s k why = (λ j x ne. rw (apart k j ne) refl, λ x. rw (itself k) refl)
 
-pub gives_begin : (k : ℕ) → Gives k (Begin k) Home
+pub gives_begin : (k : ℕ) → LeavesWith k (Begin k) Home
 gives_begin k = (λ j x ne. rw (apart k j ne) refl, λ x. rw (itself k) refl)
 
-pub gives_chain : (k : ℕ) → Gives k (Chain k) Owner
+pub gives_chain : (k : ℕ) → LeavesWith k (Chain k) Owner
 gives_chain k = (λ j x ne. rw (apart k j ne) refl, λ x. rw (itself k) refl)
 
 -- one where x keeps the number away from home, for sender s, or on the list or with the owner
@@ -81,32 +81,32 @@ queue_from_bit Owner e = tt
 queue_from_bit _ e = absurd (omega arith)
 
 -- the counts of a number's events tell that x keeps it
-abbrev pub Tells : ℕ → Keeper → ℕ → ℕ → ℕ → ℕ → ℕ → ℕ → Type 0
-Tells s x starts stops sets clears enters leaves =
+abbrev pub CountsTell : ℕ → Keeper → ℕ → ℕ → ℕ → ℕ → ℕ → ℕ → Type 0
+CountsTell s x starts stops sets clears enters leaves =
     (starts ≡ stops + held_bit s x) × (sets ≡ clears + pending_bit x) × (enters ≡ leaves + queue_bit x)
 
 abbrev pub IsKept : ℕ → ℕ → List Event → Type 0
 IsKept s k h =
-    Tells s (keeper h k) (count_by (starts_hold s k) h) (count_by (stops_hold s k) h) (count_by (sets_pending k) h) (count_by (clears_pending k) h)
+    CountsTell s (keeper h k) (count_by (starts_hold s k) h) (count_by (stops_hold s k) h) (count_by (sets_pending k) h) (count_by (clears_pending k) h)
     (count_by (λ j. j == k) (accepted h)) (count_by (λ j. j == k) (begun h))
 
 module _ (s t : ℕ) where
-  held : (q : Bool) (x : Keeper) (a b c d e f : ℕ) → (q ≡ true → x ≡ Home) → Tells s x a b c d e f
-      → Tells s (if q then Sender t else x) (a + cond (q && (t == s)) 1 0) (b + 0) (c + cond q 1 0) (d + 0) e f
+  held : (q : Bool) (x : Keeper) (a b c d e f : ℕ) → (q ≡ true → x ≡ Home) → CountsTell s x a b c d e f
+      → CountsTell s (if q then Sender t else x) (a + cond (q && (t == s)) 1 0) (b + 0) (c + cond q 1 0) (d + 0) e f
   held false x a b c d e f fits o = (omega arith, omega arith, omega arith)
   held true Home a b c d e f fits o = (omega arith, omega arith, omega arith)
   held true _ a b c d e f fits o = absurd (cc (fits refl))
 
-  pushed : (q : Bool) (x : Keeper) (a b c d e f : ℕ) → (q ≡ true → x ≡ Sender t) → Tells s x a b c d e f
-      → Tells s (if q then Listed else x) (a + 0) (b + cond (q && (t == s)) 1 0) (c + 0) (d + 0) (e + cond q 1 0) f
+  pushed : (q : Bool) (x : Keeper) (a b c d e f : ℕ) → (q ≡ true → x ≡ Sender t) → CountsTell s x a b c d e f
+      → CountsTell s (if q then Listed else x) (a + 0) (b + cond (q && (t == s)) 1 0) (c + 0) (d + 0) (e + cond q 1 0) f
   pushed false x a b c d e f fits o = (omega arith, omega arith, omega arith)
   pushed true (Sender u) a b c d e f fits o =
       let u≡t : u ≡ t = cc (fits refl) in
       let o' = rw u≡t at o in (omega arith, omega arith, omega arith)
   pushed true _ a b c d e f fits o = absurd (cc (fits refl))
 
-  returned : (q : Bool) (x : Keeper) (a b c d e f : ℕ) → (q ≡ true → x ≡ Sender t) → Tells s x a b c d e f
-      → Tells s (if q then Home else x) (a + 0) (b + cond (q && (t == s)) 1 0) (c + 0) (d + cond q 1 0) e f
+  returned : (q : Bool) (x : Keeper) (a b c d e f : ℕ) → (q ≡ true → x ≡ Sender t) → CountsTell s x a b c d e f
+      → CountsTell s (if q then Home else x) (a + 0) (b + cond (q && (t == s)) 1 0) (c + 0) (d + cond q 1 0) e f
   returned false x a b c d e f fits o = (omega arith, omega arith, omega arith)
   returned true (Sender u) a b c d e f fits o =
       let u≡t : u ≡ t = cc (fits refl) in
@@ -114,20 +114,20 @@ module _ (s t : ℕ) where
   returned true _ a b c d e f fits o = absurd (cc (fits refl))
 
 module _ (s : ℕ) where
-  began : (q : Bool) (x : Keeper) (a b c d e f : ℕ) → (q ≡ true → IsQueue x) → Tells s x a b c d e f
-      → Tells s (if q then Home else x) (a + 0) (b + 0) (c + 0) (d + cond q 1 0) e (f + cond q 1 0)
+  began : (q : Bool) (x : Keeper) (a b c d e f : ℕ) → (q ≡ true → IsQueue x) → CountsTell s x a b c d e f
+      → CountsTell s (if q then Home else x) (a + 0) (b + 0) (c + 0) (d + cond q 1 0) e (f + cond q 1 0)
   began false x a b c d e f fits o = (omega arith, omega arith, omega arith)
   began true Listed a b c d e f fits o = (omega arith, omega arith, omega arith)
   began true Owner a b c d e f fits o = (omega arith, omega arith, omega arith)
   began true _ a b c d e f fits o = absurd (fits refl)
 
-  chained : (q : Bool) (x : Keeper) (a b c d e f : ℕ) → (q ≡ true → x ≡ Home) → Tells s x a b c d e f
-      → Tells s (if q then Owner else x) (a + 0) (b + 0) (c + cond q 1 0) (d + 0) (e + cond q 1 0) f
+  chained : (q : Bool) (x : Keeper) (a b c d e f : ℕ) → (q ≡ true → x ≡ Home) → CountsTell s x a b c d e f
+      → CountsTell s (if q then Owner else x) (a + 0) (b + 0) (c + cond q 1 0) (d + 0) (e + cond q 1 0) f
   chained false x a b c d e f fits o = (omega arith, omega arith, omega arith)
   chained true Home a b c d e f fits o = (omega arith, omega arith, omega arith)
   chained true _ a b c d e f fits o = absurd (cc (fits refl))
 
-  took : (x : Keeper) (a b c d e f : ℕ) → Tells s x a b c d e f → Tells s (taken_over x) (a + 0) (b + 0) (c + 0) (d + 0) e f
+  took : (x : Keeper) (a b c d e f : ℕ) → CountsTell s x a b c d e f → CountsTell s (taken_over x) (a + 0) (b + 0) (c + 0) (d + 0) e f
   took Listed a b c d e f o = (omega arith, omega arith, omega arith)
   took _ a b c d e f o = (omega arith, omega arith, omega arith)
 
@@ -154,7 +154,7 @@ kept_after s k h _ fits o = simp (growing, add-zero) o
 count_front : (p : ℕ → Bool) (xs ys : List ℕ) → IsPrefix xs ys → count_by p xs ≤ count_by p ys
 count_front p xs ys front = omega (arith, sum_by-append (λ x. cond (p x) 1 0) xs front.0, ap (count_by p) front.1)
 
-pub fits_keeper : (h : List Event) (e : Event) → MayFollow h e → IsInOrder h → ((s k : ℕ) → IsKept s k h) → (k : ℕ) → FitsKeeper k (keeper h k) e
+pub fits_keeper : (h : List Event) (e : Event) → MayFollow h e → RunsInOrder h → ((s k : ℕ) → IsKept s k h) → (k : ℕ) → FitsKeeper k (keeper h k) e
 fits_keeper h (Hold t j) may o kept k = λ same.
     let j≡k = eqb-true j k same in
     rw (← j≡k) (home_from_bit (keeper h j) (omega (arith, (kept t j).1)))

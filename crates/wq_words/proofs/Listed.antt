@@ -31,13 +31,13 @@ abbrev pub IsListed : List Event → Type 0
 IsListed h = AreListed (shut h) (taken h) (fresh h) (accepted h) (listed h)
 
 -- the event neither cuts nor closes
-pub record IsQuiet (e : Event) : Type 0 where
+pub record CutsNothing (e : Event) : Type 0 where
   pub no_cut : is_cut e ≡ false
   pub no_drain : is_drain e ≡ false
   pub no_resume : is_resume e ≡ false
   pub no_close : is_close e ≡ false
 
-module _ (h : List Event) (e : Event) (q : IsQuiet e) where
+module _ (h : List Event) (e : Event) (q : CutsNothing e) where
   shut_still : shut (h ++ e ∷ []) ≡ shut h
   shut_still = shut_quiet h e q.no_resume q.no_drain q.no_close
 
@@ -73,10 +73,10 @@ taken_push_push h s k is =
 listed_nil : IsListed []
 listed_nil = record { front = []; front_taken = refl; parts = refl; open_fresh = λ _. refl; shut_none = λ _. refl }
 
-pub quiet : {e : Event} → is_cut e ≡ false → is_drain e ≡ false → is_resume e ≡ false → is_close e ≡ false → IsQuiet e
+pub quiet : {e : Event} → is_cut e ≡ false → is_drain e ≡ false → is_resume e ≡ false → is_close e ≡ false → CutsNothing e
 quiet no_cut no_drain no_resume no_close = record { no_cut = no_cut; no_drain = no_drain; no_resume = no_resume; no_close = no_close }
 
-listed_quiet : (h : List Event) (e : Event) → IsQuiet e → is_push e ≡ false → accepted_by e ≡ None → listed_after (listed h) e ≡ listed h
+listed_quiet : (h : List Event) (e : Event) → CutsNothing e → is_push e ≡ false → accepted_by e ≡ None → listed_after (listed h) e ≡ listed h
     → IsListed h → IsListed (h ++ e ∷ [])
 listed_quiet h e q no_push no_accept no_list l =
     let still : shut (h ++ e ∷ []) ≡ shut h = shut_still h e q in

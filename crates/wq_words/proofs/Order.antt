@@ -11,8 +11,8 @@ pub record AreInOrder (accepted begun ended : List ℕ) : Type 0 where
   pub ended_first : IsPrefix ended begun
   pub one_at_a_time : length begun ≤ length ended + 1
 
-abbrev pub IsInOrder : List Event → Type 0
-IsInOrder h = AreInOrder (accepted h) (begun h) (ended h)
+abbrev pub RunsInOrder : List Event → Type 0
+RunsInOrder h = AreInOrder (accepted h) (begun h) (ended h)
 
 accepts : (acs bs es : List ℕ) (k : ℕ) → AreInOrder acs bs es → AreInOrder (acs ++ k ∷ []) bs es
 accepts acs bs es k o = record { begun_first = prefix_append bs acs (k ∷ []) o.begun_first; ended_first = o.ended_first; one_at_a_time = o.one_at_a_time }
@@ -32,16 +32,16 @@ ends acs bs es k o at = record {
   one_at_a_time = simp length-append (omega arith);
 }
 
-in_order_after : (h : List Event) (e : Event) → MayFollow h e → IsInOrder h → IsInOrder (h ++ e ∷ [])
+in_order_after : (h : List Event) (e : Event) → MayFollow h e → RunsInOrder h → RunsInOrder (h ++ e ∷ [])
 in_order_after h (Push s k) may o = simp growing (accepts _ _ _ k o)
 in_order_after h (Begin k) may o = simp growing (begins _ _ _ k o may.0 may.1)
 in_order_after h (End k) may o = simp growing (ends _ _ _ k o may)
 in_order_after h (Chain k) may o = simp growing (accepts _ _ _ k o)
 in_order_after h _ may o = simp growing o
 
-pub in_order : (layout : Layout) (h : List Event) → IsLegal layout h → IsInOrder h
+pub in_order : (layout : Layout) (h : List Event) → IsLegal layout h → RunsInOrder h
 in_order layout h legal =
-    legal_induction layout IsInOrder (record { begun_first = ([], refl); ended_first = ([], refl); one_at_a_time = omega arith })
+    legal_induction layout RunsInOrder (record { begun_first = ([], refl); ended_first = ([], refl); one_at_a_time = omega arith })
     (λ g e _ a o. in_order_after g e a.2 o) h legal
 
 -- none runs where as many ended as begun, and else the last that was begun

@@ -4,7 +4,7 @@ use Rattle.wq_words.proofs.Common.{Layout, Event, Hold, Busy, Push, Back, accept
 use Rattle.wq_words.specs.declared.event.Why.{Why}
 use Rattle.wq_words.proofs.Closed.{shut_from_open, shut_quiet, shut_from_IsShut, IsShut_from_shut}
 use Rattle.wq_words.proofs.Legal.{legal_front, legal_next, legal_rest}
-use Rattle.wq_words.proofs.Listed.{accepted_push_none, quiet, IsQuiet, taken_push_same, taken_push_push}
+use Rattle.wq_words.proofs.Listed.{accepted_push_none, quiet, CutsNothing, taken_push_same, taken_push_push}
 use Rattle.wq_words.proofs.Seen.{own_rest}
 
 -- what each event of a sender keeps
@@ -55,7 +55,7 @@ accepted_shut layout v new legal shut none =
       back = λ w s k why. still w (Back s k why) (quiet refl refl refl refl) refl;
     }) v new legal none (shut, refl)).1
   where
-    still : (w : List Event) (e : Event) → IsQuiet e → accepted_by e ≡ None → IsShut w × (accepted w ≡ accepted v)
+    still : (w : List Event) (e : Event) → CutsNothing e → accepted_by e ≡ None → IsShut w × (accepted w ≡ accepted v)
         → IsShut (w ++ e ∷ []) × (accepted (w ++ e ∷ []) ≡ accepted v)
     still w e q passes p = (
       IsShut_from_shut (w ++ e ∷ []) (shut_quiet w e q.no_resume q.no_drain q.no_close ∙ shut_from_IsShut w p.0),

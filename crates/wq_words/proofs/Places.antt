@@ -7,9 +7,9 @@ use Rattle.wq_words.proofs.Common.{Home, Sender, Listed, Owner, Keeps, taken_ove
 use Rattle.wq_words.proofs.Growing.{filter_map_push_some, filter_map_push_none, slice_get_append, slice_get_last}
 use Rattle.wq_words.proofs.Legal.{legal_induction}
 use Rattle.wq_words.proofs.Prefixes.{prefix_length}
-use Rattle.wq_words.proofs.Order.{IsInOrder, in_order}
+use Rattle.wq_words.proofs.Order.{RunsInOrder, in_order}
 use Rattle.wq_words.proofs.Keepers.{IsQueue, held_bit, queue_bit, home_from_bit, sender_from_bit, queue_from_bit, kept, keeper_push}
-use Rattle.wq_words.proofs.Listed.{IsListed, IsQuiet, quiet, is_listed, length-accepted, accepted_push_none, taken_push_same, taken_push_push, taken_cut}
+use Rattle.wq_words.proofs.Listed.{IsListed, CutsNothing, quiet, is_listed, length-accepted, accepted_push_none, taken_push_same, taken_push_push, taken_cut}
 use Rattle.wq_words.proofs.Listed.{taken_shut}
 use Rattle.wq_words.proofs.Closed.{shut_quiet, shut_close, shut_from_IsShut, shut_from_open}
 
@@ -74,24 +74,25 @@ chained b j acs k false (Sender s) ble same o = tt
 chained b j acs k false Listed ble same o = absurd (omega (arith, o.2, slice_get_within acs o.0 k o.3))
 chained b j acs k false Owner ble same o = (o.0, o.1, omega (arith, o.2), slice_get_append acs (j ∷ []) o.0 k o.3)
 
-abbrev pub IsPlaced : ℕ → List Event → Type 0
-IsPlaced k h = StandsFor (length (begun h)) (taken h) (accepted h) k (keeper h k)
+abbrev pub StandsWhereKept : ℕ → List Event → Type 0
+StandsWhereKept k h = StandsFor (length (begun h)) (taken h) (accepted h) k (keeper h k)
 
 module _ (k : ℕ) (h : List Event) where
   begun_same : (e : Event) → begun_by e ≡ None → length (begun (h ++ e ∷ [])) ≡ length (begun h)
   begun_same e none = ap length (filter_map_push_none begun_by h e none ∙ append-nil (begun h))
 
-  same_place : (e : Event) → IsQuiet e → accepted_by e ≡ None → begun_by e ≡ None
-      → StandsFor (length (begun h)) (taken h) (accepted h) k (keeper_after k (keeper h k) e) → IsPlaced k (h ++ e ∷ [])
+  same_place : (e : Event) → CutsNothing e → accepted_by e ≡ None → begun_by e ≡ None
+      → StandsFor (length (begun h)) (taken h) (accepted h) k (keeper_after k (keeper h k) e) → StandsWhereKept k (h ++ e ∷ [])
   same_place e q no_accept no_begin o =
       stands_at k (begun_same e no_begin) (taken_push_same h e q no_accept) (accepted_push_none h e no_accept) (keeper_push h e k) o
 
   took_place : (e : Event) → accepted_by e ≡ None → begun_by e ≡ None → taken (h ++ e ∷ []) ≡ length (accepted h)
-      → StandsFor (length (begun h)) (length (accepted h)) (accepted h) k (keeper_after k (keeper h k) e) → IsPlaced k (h ++ e ∷ [])
+      → StandsFor (length (begun h)) (length (accepted h)) (accepted h) k (keeper_after k (keeper h k) e) → StandsWhereKept k (h ++ e ∷ [])
   took_place e no_accept no_begin all o =
       stands_at k (begun_same e no_begin) all (accepted_push_none h e no_accept) (keeper_push h e k) o
 
-  placed_after : (e : Event) → MayFollow h e → IsInOrder h → IsListed h → taken h ≤ length (accepted h) → IsPlaced k h → IsPlaced k (h ++ e ∷ [])
+  placed_after : (e : Event) → MayFollow h e → RunsInOrder h → IsListed h → taken h ≤ length (accepted h) → StandsWhereKept k h
+      → StandsWhereKept k (h ++ e ∷ [])
   placed_after (Hold s j) may order l le o = same_place (Hold s j) (quiet refl refl refl refl) refl refl (held _ _ _ k s (j == k) _ o)
   placed_after (Busy s j) may order l le o = same_place (Busy s j) (quiet refl refl refl refl) refl refl o
   placed_after (Back s j why) may order l le o = same_place (Back s j why) (quiet refl refl refl refl) refl refl (returned _ _ _ k (j == k) _ o)
@@ -123,9 +124,9 @@ module _ (k : ℕ) (h : List Event) where
       (chained _ j _ k (j == k) _ (prefix_length (begun h) (accepted h) order.begun_first) (eqb-true j k) o')
   placed_after _ may order l le o = same_place _ (quiet refl refl refl refl) refl refl o
 
-pub placed : (layout : Layout) (h : List Event) → IsLegal layout h → (k : ℕ) → IsPlaced k h
+pub placed : (layout : Layout) (h : List Event) → IsLegal layout h → (k : ℕ) → StandsWhereKept k h
 placed layout h legal k =
-    legal_induction layout (IsPlaced k) tt
+    legal_induction layout (StandsWhereKept k) tt
     (λ h e before allowed o.
     let some = length-accepted layout h before in
     placed_after k h e allowed.2 (in_order layout h before) (is_listed layout h before) (omega (arith, some)) o) h legal

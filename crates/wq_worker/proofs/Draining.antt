@@ -10,7 +10,7 @@ use Rattle.wq_words.specs.History.{accepted_by, next}
 use Rattle.wq_words.proofs.Legal.{legal_front, legal_next}
 use Rattle.wq_words.proofs.Prefixes.{prefix_whole}
 use Rattle.wq_worker.specs.Seats.{at_take, at_all}
-use Rattle.wq_worker.proofs.Owned.{IsQuiet, owner_of_both, quiet_stays}
+use Rattle.wq_worker.proofs.Owned.{LeavesExecutions, owner_of_both, quiet_stays}
 use Rattle.wq_worker.proofs.Phase.{phase_grown, open_still, shut_still}
 use Rattle.wq_worker.proofs.Rows.{runs_by_phase}
 use Rattle.wq_worker.proofs.Shut.{batch-shut}
@@ -43,7 +43,7 @@ ended_at layout v new w is legal idle same none =
     omega (arith, prefix_length (ended v) (begun v) order.ended_first, prefix_length (begun v) (accepted v) order.begun_first, idle, past, b, a)
 
 -- where nothing waits and nothing runs, a queue that is shut has run out
-nothing_left : (layout : Layout) (s n : ℕ) (es v w : List Event) → Adds s es n v w → IsQuiet es → IsLegal layout w → IsShut v → ¬ IsRunning v
+nothing_left : (layout : Layout) (s n : ℕ) (es v w : List Event) → Adds s es n v w → LeavesExecutions es → IsLegal layout w → IsShut v → ¬ IsRunning v
     → NothingWaits w → length (ended v) ≡ length (accepted v)
 nothing_left layout s n es v w a q legal shut idle (at_take before after is last none) =
     let same = quiet_stays es v w q (owner_of_both s es n v w a) in

@@ -8,27 +8,27 @@ use Rattle.wq_words.specs.declared.answer.Answer.TheVariants as answer
 use Rattle.wq_live.specs.Answers.{Answers, Chains}
 use Rattle.wq_worker.specs.Follow.{Queues, passed, pushed, busy, chained, chain_busy}
 use Rattle.wq_worker.specs.Pair.{settled, Attempts}
-use Rattle.wq_worker.proofs.Owned.{IsQuiet, quiet_none, quiet_append, Stays, quiet_stays, owner_of_both}
+use Rattle.wq_worker.proofs.Owned.{LeavesExecutions, quiet_none, quiet_append, Stays, quiet_stays, owner_of_both}
 use Rattle.wq_words.proofs.Closed.{closed_shuts}
 use Rattle.wq_worker.proofs.Pair.{both_on, by_owner, by_sender}
 use Rattle.wq_worker.proofs.Phase.{phase_grown, unclosed_still}
 use Rattle.wq_calls.proofs.Refused.{closed_by}
 use Rattle.wq_worker.proofs.Refusals.{met_none}
 
-quiet_as : (xs es : List Event) → es ≡ xs → IsQuiet xs → IsQuiet es
-quiet_as xs es is q = subst IsQuiet (sym is) q
+quiet_as : (xs es : List Event) → es ≡ xs → LeavesExecutions xs → LeavesExecutions es
+quiet_as xs es is q = subst LeavesExecutions (sym is) q
 
-pub quiet_queues : (n s : ℕ) (b : Bool) (k : ℕ) (es : List Event) → Queues n s b k es → IsQuiet es
+pub quiet_queues : (n s : ℕ) (b : Bool) (k : ℕ) (es : List Event) → Queues n s b k es → LeavesExecutions es
 quiet_queues n s b k es (passed h is) = quiet_as [] es is quiet_none
 quiet_queues n s b k es (pushed h i is) = quiet_as (Hold s k ∷ Push s k ∷ []) es is (record { begun_none = refl; ended_none = refl; phase_changes_none = refl })
 quiet_queues n s b k es (busy h i is) = quiet_as (Busy s k ∷ []) es is (record { begun_none = refl; ended_none = refl; phase_changes_none = refl })
 quiet_queues n s b k es (chained h i is) = quiet_as (Chain k ∷ []) es is (record { begun_none = refl; ended_none = refl; phase_changes_none = refl })
 quiet_queues n s b k es (chain_busy h i is) = quiet_as (ChainBusy k ∷ []) es is (record { begun_none = refl; ended_none = refl; phase_changes_none = refl })
 
-pub quiet_contended : (s k : ℕ) → IsQuiet (contended_of s k)
+pub quiet_contended : (s k : ℕ) → LeavesExecutions (contended_of s k)
 quiet_contended s k = record { begun_none = refl; ended_none = refl; phase_changes_none = refl }
 
-pub quiet_follows : (n s : ℕ) (b : Bool) (ks : List ℕ) (es : List Event) → Follows n s b ks es → IsQuiet es
+pub quiet_follows : (n s : ℕ) (b : Bool) (ks : List ℕ) (es : List Event) → Follows n s b ks es → LeavesExecutions es
 quiet_follows n s b [] es is = quiet_as [] es is quiet_none
 quiet_follows n s b (k ∷ ks) es t = quiet_as (t.0 ++ t.1) es t.2 (quiet_append t.0 t.1 (quiet_queues n s b k t.0 t.3) (quiet_follows n s b ks t.1 t.4))
 

@@ -52,15 +52,15 @@ owner_of_both s es n v w a =
     }
 
 -- nothing begins or ends by these, and they hold neither a close nor a drain nor a resume
-pub record IsQuiet (es : List Event) : Type 0 where
+pub record LeavesExecutions (es : List Event) : Type 0 where
   pub begun_none : begun es ≡ []
   pub ended_none : ended es ≡ []
   pub phase_changes_none : count_by is_phase_change es ≡ 0
 
-pub quiet_none : IsQuiet []
+pub quiet_none : LeavesExecutions []
 quiet_none = record { begun_none = refl; ended_none = refl; phase_changes_none = refl }
 
-pub quiet_append : (xs ys : List Event) → IsQuiet xs → IsQuiet ys → IsQuiet (xs ++ ys)
+pub quiet_append : (xs ys : List Event) → LeavesExecutions xs → LeavesExecutions ys → LeavesExecutions (xs ++ ys)
 quiet_append xs ys a b = record {
   begun_none = filter_map-append begun_by xs ys ∙ (ap (λ (z : List ℕ). z ++ begun ys) a.begun_none ∙ b.begun_none);
   ended_none = filter_map-append ended_by xs ys ∙ (ap (λ (z : List ℕ). z ++ ended ys) a.ended_none ∙ b.ended_none);
@@ -74,7 +74,7 @@ pub record Stays (v w : List Event) : Type 0 where
   pub running_same : running w ≡ running v
   pub phase : SamePhase v w
 
-pub quiet_stays : (es v w : List Event) → IsQuiet es → OwnerAdds es v w → Stays v w
+pub quiet_stays : (es v w : List Event) → LeavesExecutions es → OwnerAdds es v w → Stays v w
 quiet_stays es v w q o =
     let b : begun w ≡ begun v = o.begun_is ∙ (ap (λ (z : List ℕ). begun v ++ z) q.begun_none ∙ append-nil (begun v)) in
     let e : ended w ≡ ended v = o.ended_is ∙ (ap (λ (z : List ℕ). ended v ++ z) q.ended_none ∙ append-nil (ended v)) in

@@ -8,7 +8,7 @@ use Rattle.std.proofs.lemmas.List.Elements.{filter-append}
 use Rattle.wq_words.specs.History.{ended_by}
 use Rattle.wq_worker.specs.Seats.{taking_of}
 use Rattle.wq_worker.specs.State.{AreWorkerParts}
-use Rattle.wq_worker.proofs.Owned.{IsQuiet, quiet_stays, owner_of_both}
+use Rattle.wq_worker.proofs.Owned.{LeavesExecutions, quiet_stays, owner_of_both}
 use Rattle.wq_worker.proofs.Follow.{advance_stays, advance_layout, advance_legal, advance_number}
 
 -- the log goes on as the begun numbers do
@@ -47,12 +47,12 @@ pub fit_both : (xs : List Event) (log : List ℕ) (tries at : ℕ) (follow : Lis
 fit_both xs log tries at follow old new none fit b =
     fit_still log tries at follow at follow old new fit b.legal b.number_is b.layout_is (begun_both xs old new none b) fit.within
 
-quiet_taking_of : (n : Option ℕ) (b : Bool) → IsQuiet (taking_of n b)
+quiet_taking_of : (n : Option ℕ) (b : Bool) → LeavesExecutions (taking_of n b)
 quiet_taking_of (Some k) b = record { begun_none = refl; ended_none = refl; phase_changes_none = refl }
 quiet_taking_of None true = record { begun_none = refl; ended_none = refl; phase_changes_none = refl }
 quiet_taking_of None false = record { begun_none = refl; ended_none = refl; phase_changes_none = refl }
 
-pub quiet_taking : (h : List Event) → IsQuiet (taking h)
+pub quiet_taking : (h : List Event) → LeavesExecutions (taking h)
 quiet_taking h = quiet_taking_of (next_of h) (shut h)
 
 -- nothing runs after a take where nothing ran

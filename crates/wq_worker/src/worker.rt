@@ -72,7 +72,7 @@ impl<W: Work> Worker<W> {
     pub fn new(owner: Owner, sender: Sender, work: W, tries: u32) -> Worker<W>
         requires one { sender.queue ≡ owner.queue }
         requires tries { 0 < tries }
-        requires unbegun { begun owner.seen ≡ [] }
+        requires none_begun { begun owner.seen ≡ [] }
         requires unrun { W.log work ≡ [] }
         ensures parts { IsMadeOf owner sender work tries result }
         ensures owner { Grows owner_seat [] 0 owner.seen result.seen }

@@ -58,7 +58,7 @@ pub(crate) fn new_queue<R: Abort>(
     items: u32,
     senders: u32,
 ) -> (Owner, Vec<Sender>)
-    ensures unbegun { begun result.0.seen ≡ [] }
+    ensures none_begun { begun result.0.seen ≡ [] }
     ensures one { All (λ s. s.queue ≡ result.0.queue) result.1.items }
 {
     let layout = Layout::new(items, 1, senders).expect(rt, "a layout");

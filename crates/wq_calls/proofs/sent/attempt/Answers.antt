@@ -6,7 +6,7 @@ use Rattle.wq_calls.proofs.Settled.{tries_told}
 use Rattle.wq_calls.proofs.sent.attempt.Goals as goal
 
 pub try_push-posted-requires : goal.try_push-posted-requires
-try_push-posted-requires g c = let s = sending_in g.P.Place.at c.args.chair.now c.args.sent.now in let o = c.requires.sends in record {
+try_push-posted-requires g c = let s = sending_in g.P.WhichPart.at c.args.chair.now c.args.sent.now in let o = c.requires.sends in record {
   sender = o.stage;
   number = subst (λ (l : Layout). c.args.number < number_count l) (sym o.layout_is) c.requires.number;
   held = holds_view s (sender_view s) c.args.number refl o c.requires.held;
@@ -15,7 +15,7 @@ try_push-posted-requires g c = let s = sending_in g.P.Place.at c.args.chair.now 
 
 pub returns-in-Queued : goal.returns-in-Queued
 returns-in-Queued g c =
-    let at = g.P.Place.at in let s = sending_in at c.args.chair.now c.args.sent.now in let o = c.requires.sends in let k = c.args.number in
+    let at = g.P.WhichPart.at in let s = sending_in at c.args.chair.now c.args.sent.now in let o = c.requires.sends in let k = c.args.number in
     let t : Sending = record (sending_in at c.try_push-posted.new.chair c.args.sent.now)
     { counts = record s.counts { queued = c.saturating_add-sent.result } } in
     let p = s.chair.part in let q = t.chair.part in let e = c.try_push-posted.ensures in
@@ -32,7 +32,7 @@ returns-in-Queued g c =
 
 pub returns-in-Closed : goal.returns-in-Closed
 returns-in-Closed g c =
-    let at = g.P.Place.at in let s = sending_in at c.args.chair.now c.args.sent.now in let o = c.requires.sends in let k = c.args.number in
+    let at = g.P.WhichPart.at in let s = sending_in at c.args.chair.now c.args.sent.now in let o = c.requires.sends in let k = c.args.number in
     let t : Sending = sending_in at c.try_push-posted.new.chair c.args.sent.now in
     let p = s.chair.part in let q = t.chair.part in let e = c.try_push-posted.ensures in
     let told = (subst (λ (a : Posted). PostsAs k a p q) c.in-Closed.is e.posts) in record {
@@ -48,7 +48,7 @@ returns-in-Closed g c =
 
 pub returns-in-Draining : goal.returns-in-Draining
 returns-in-Draining g c =
-    let at = g.P.Place.at in let s = sending_in at c.args.chair.now c.args.sent.now in let o = c.requires.sends in let k = c.args.number in
+    let at = g.P.WhichPart.at in let s = sending_in at c.args.chair.now c.args.sent.now in let o = c.requires.sends in let k = c.args.number in
     let t : Sending = sending_in at c.try_push-posted.new.chair c.args.sent.now in
     let p = s.chair.part in let q = t.chair.part in let e = c.try_push-posted.ensures in
     let told = (subst (λ (a : Posted). PostsAs k a p q) c.in-Draining.is e.posts).0 in record {
@@ -64,7 +64,7 @@ returns-in-Draining g c =
 
 pub returns-in-Contended : goal.returns-in-Contended
 returns-in-Contended g c =
-    let at = g.P.Place.at in let s = sending_in at c.args.chair.now c.args.sent.now in let o = c.requires.sends in let k = c.args.number in
+    let at = g.P.WhichPart.at in let s = sending_in at c.args.chair.now c.args.sent.now in let o = c.requires.sends in let k = c.args.number in
     let t : Sending = sending_in at c.try_push-posted.new.chair c.args.sent.now in
     let p = s.chair.part in let q = t.chair.part in let e = c.try_push-posted.ensures in
     let told = (subst (λ (a : Posted). PostsAs k a p q) c.in-Contended.is e.posts) in record {

@@ -8,7 +8,7 @@ use Rattle.wq_calls.proofs.sent.hold_number.Goals as goal
 
 pub returns-then-hold-eq0 : goal.returns-then-hold-eq0
 returns-then-hold-eq0 g c =
-    let at = g.P.Place.at in let s = sending_in at c.args.chair.now c.args.sent.now in let o = c.requires.sends in let k = c.args.number in
+    let at = g.P.WhichPart.at in let s = sending_in at c.args.chair.now c.args.sent.now in let o = c.requires.sends in let k = c.args.number in
     let t : Sending = sending_in at c.hold.new.self c.args.sent.now in
     let p = s.chair.part in let q = t.chair.part in let step = c.hold.ensures.step in let made = step.steps.moves.makes in
     let is : (c.hold.result == 0) ≡ true = eq-eqb c.hold.result 0 c.if-hold-eq0.true in
@@ -24,7 +24,7 @@ returns-then-hold-eq0 g c =
 
 pub returns : goal.returns
 returns g c =
-    let at = g.P.Place.at in let s = sending_in at c.args.chair.now c.args.sent.now in let o = c.requires.sends in let k = c.args.number in
+    let at = g.P.WhichPart.at in let s = sending_in at c.args.chair.now c.args.sent.now in let o = c.requires.sends in let k = c.args.number in
     let x = c.saturating_add-sent.result in
     let t : Sending = record (sending_in at c.hold.new.self c.args.sent.now) { counts = record s.counts { pending = x } } in
     let p = s.chair.part in let q = t.chair.part in let step = c.hold.ensures.step in let made = step.steps.moves.makes in

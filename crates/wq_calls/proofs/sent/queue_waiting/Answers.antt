@@ -5,7 +5,7 @@ use Rattle.wq_calls.proofs.Settled.{tried_same, held_after, answers_settled, con
 use Rattle.wq_calls.proofs.sent.queue_waiting.Goals as goal
 
 pub try_waiting-posted-requires : goal.try_waiting-posted-requires
-try_waiting-posted-requires g c = let at = g.P.Place.at in let k = c.args.number in let a = c.args.chair.now in let b = c.hold_number.new.chair in
+try_waiting-posted-requires g c = let at = g.P.WhichPart.at in let k = c.args.number in let a = c.args.chair.now in let b = c.hold_number.new.chair in
     let e = c.if-not-hold_number.ensures in let same = e.seen.same in record {
       sends = e.sends;
       number = subst (λ (l : Layout). k < number_count l) (sym same.layout_is) c.requires.number;
@@ -15,7 +15,8 @@ try_waiting-posted-requires g c = let at = g.P.Place.at in let k = c.args.number
 
 pub settle-requires : goal.settle-requires
 settle-requires g c =
-    let at = g.P.Place.at in let k = c.args.number in let a = c.args.chair.now in let b = c.hold_number.new.chair in let d = c.try_waiting-posted.new.chair in
+    let at = g.P.WhichPart.at in let k = c.args.number in let a = c.args.chair.now in let b = c.hold_number.new.chair in
+    let d = c.try_waiting-posted.new.chair in
     let s = sender_view (sending_in at a c.args.sent.now) in let t = sender_view (sending_in at b c.hold_number.new.sent) in
     let u = sender_view (sending_in at d c.try_waiting-posted.new.sent) in let e = c.if-not-hold_number.ensures in let f = c.try_waiting-posted.ensures in
     let same = tried_same k 0 c.try_waiting-posted.result t u f.posts in record {
@@ -29,7 +30,8 @@ settle-requires g c =
 
 pub returns : goal.returns
 returns g c =
-    let at = g.P.Place.at in let k = c.args.number in let a = c.args.chair.now in let b = c.hold_number.new.chair in let d = c.try_waiting-posted.new.chair in
+    let at = g.P.WhichPart.at in let k = c.args.number in let a = c.args.chair.now in let b = c.hold_number.new.chair in
+    let d = c.try_waiting-posted.new.chair in
     let s = sender_view (sending_in at a c.args.sent.now) in let t = sender_view (sending_in at b c.hold_number.new.sent) in
     let u = sender_view (sending_in at d c.try_waiting-posted.new.sent) in let e = c.if-not-hold_number.ensures in let f = c.try_waiting-posted.ensures in
     let w = sender_view (sending_in at c.settle.new.chair c.settle.new.sent) in let h = c.settle.ensures in let posted = c.try_waiting-posted.result in

@@ -7,7 +7,7 @@ use Rattle.wq_calls.proofs.Settled.{tries_after}
 use Rattle.wq_calls.proofs.sent.try_tries.Goals as goal
 
 pub loop-init : goal.loop-init
-loop-init g c = let s = sender_view (sending_in g.P.Place.at c.args.chair.now c.args.sent.now) in record {
+loop-init g c = let s = sender_view (sending_in g.P.WhichPart.at c.args.chair.now c.args.sent.now) in record {
   sends = c.requires.sends;
   learns = inl refl;
   same = same_none s;
@@ -26,7 +26,7 @@ attempt-requires-clause-slot g c = let inv = c.loop.invariant in
 
 pub loop-preserved : goal.loop-preserved
 loop-preserved g c =
-    let at = g.P.Place.at in let n = c.loop.counter in let s = sender_view (sending_in at c.args.chair.now c.args.sent.now) in
+    let at = g.P.WhichPart.at in let n = c.loop.counter in let s = sender_view (sending_in at c.args.chair.now c.args.sent.now) in
     let l = sender_view (sending_in at c.loop.chair c.loop.sent) in let t = sender_view (sending_in at c.attempt.new.chair c.attempt.new.sent) in
     let inv = c.loop.invariant in let e = c.in-Contended.ensures in
     let after = sees_after (λ z. []) (λ z. []) (n - 1) 1 (n + 1 - 1) s l t (omega arith) inv.same inv.grows e.posts in record {
@@ -39,7 +39,7 @@ loop-preserved g c =
     }
 
 pub returns-in_default : goal.returns-in_default
-returns-in_default g c = let at = g.P.Place.at in let k = c.args.number in let inv = c.loop.invariant in let e = c.attempt.ensures in record {
+returns-in_default g c = let at = g.P.WhichPart.at in let k = c.args.number in let inv = c.loop.invariant in let e = c.attempt.ensures in record {
   sends = e.sends;
   sees_closed = e.sees_closed;
   sees = e.sees;
@@ -59,7 +59,7 @@ attempt-requires-2-clause-slot g c = let inv = c.loop.invariant in
     c.requires.slot
 
 pub returns : goal.returns
-returns g c = let at = g.P.Place.at in let k = c.args.number in let inv = c.loop.invariant in let e = c.attempt-2.ensures in record {
+returns g c = let at = g.P.WhichPart.at in let k = c.args.number in let inv = c.loop.invariant in let e = c.attempt-2.ensures in record {
   sends = e.sends;
   sees_closed = e.sees_closed;
   sees = e.sees;

@@ -3,10 +3,10 @@ use Rattle.wq_calls.proofs.sent.try_tries.Given as goal
 
 abbrev pub invariant-loop : goal.invariant-loop
 invariant-loop g l = record {
-  sends : Sends (sending_in g.P.Place.at l.chair l.sent);
-  learns : LearnsOrStays g.P.Place.at l.fn.chair l.chair;
-  same : IsSame (sender_view (sending_in g.P.Place.at l.fn.chair l.fn.sent)) (sender_view (sending_in g.P.Place.at l.chair l.sent));
-  grows : Grows l.fn.sent.number [] (l.counter - 1) (part_in g.P.Place.at l.fn.chair).seen (part_in g.P.Place.at l.chair).seen;
-  held : Holds (part_in g.P.Place.at l.chair).seen l.sent.number l.number;
+  sends : Sends (sending_in g.P.WhichPart.at l.chair l.sent);
+  learns : LearnsOrStays g.P.WhichPart.at l.fn.chair l.chair;
+  same : IsSame (sender_view (sending_in g.P.WhichPart.at l.fn.chair l.fn.sent)) (sender_view (sending_in g.P.WhichPart.at l.chair l.sent));
+  grows : Grows l.fn.sent.number [] (l.counter - 1) (part_in g.P.WhichPart.at l.fn.chair).seen (part_in g.P.WhichPart.at l.chair).seen;
+  held : Holds (part_in g.P.WhichPart.at l.chair).seen l.sent.number l.number;
   hand : l.chair.hand ≡ l.fn.chair.hand;
 }

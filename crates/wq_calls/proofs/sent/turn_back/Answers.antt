@@ -7,12 +7,12 @@ use Rattle.wq_calls.proofs.Sends.{grows_tells, sends_tells, sees_tells, holds_vi
 use Rattle.wq_calls.proofs.sent.turn_back.Goals as goal
 
 pub back_draining-requires-clause-held : goal.back_draining-requires-clause-held
-back_draining-requires-clause-held g c = let s = sending_in g.P.Place.at c.args.chair.now c.args.sent.now in
+back_draining-requires-clause-held g c = let s = sending_in g.P.WhichPart.at c.args.chair.now c.args.sent.now in
     holds_view s (sender_view s) c.args.number refl c.requires.sends c.requires.held
 
 pub returns : goal.returns
 returns g c =
-    let at = g.P.Place.at in let s = sending_in at c.args.chair.now c.args.sent.now in let o = c.requires.sends in let k = c.args.number in
+    let at = g.P.WhichPart.at in let s = sending_in at c.args.chair.now c.args.sent.now in let o = c.requires.sends in let k = c.args.number in
     let x = c.saturating_add-sent.result in let step = c.back_draining.ensures.step.1 in let made = step.steps.moves.makes in
     let t : Sending = record (sending_in at c.back_draining.new.self c.args.sent.now) { counts = record s.counts { draining = x } } in
     let p = s.chair.part in let q = t.chair.part in

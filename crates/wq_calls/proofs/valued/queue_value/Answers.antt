@@ -6,13 +6,13 @@ pub exchange-requires : goal.exchange-requires
 exchange-requires g c = record { slot = came_empty c.args.item _ _ c.if-not-hold_number.ensures.slots c.requires.slots }
 
 pub try_tries-posted-requires : goal.try_tries-posted-requires
-try_tries-posted-requires g c = let at = g.P.Place.at in let held = c.if-not-hold_number.ensures in
+try_tries-posted-requires g c = let at = g.P.WhichPart.at in let held = c.if-not-hold_number.ensures in
     let put = put_ready at c.args.item c.args.value c.exchange.result c.args.chair.now c.hold_number.new.chair c.exchange.new.self c.args.sent.now
     c.hold_number.new.sent c.requires.slots c.requires.item held.seen held.slots held.sends held.learns c.exchange.ensures.exchanged in
     record { sends = put.0; number = put.1; held = put.2; slot = put.3 }
 
 pub settle_value-requires : goal.settle_value-requires
-settle_value-requires g c = let at = g.P.Place.at in let held = c.if-not-hold_number.ensures in let tried = c.try_tries-posted.ensures in
+settle_value-requires g c = let at = g.P.WhichPart.at in let held = c.if-not-hold_number.ensures in let tried = c.try_tries-posted.ensures in
     let put = put_tried at c.args.item c.args.value c.exchange.result c.args.chair.now c.hold_number.new.chair c.exchange.new.self c.args.sent.now
     c.hold_number.new.sent c.requires.slots c.requires.item held.seen held.slots held.sends held.learns c.exchange.ensures.exchanged
     c.try_tries-posted.new.chair c.try_tries-posted.new.sent c.args.tries c.try_tries-posted.result tried.posts tried.learns tried.slots in
@@ -27,7 +27,7 @@ settle_value-requires g c = let at = g.P.Place.at in let held = c.if-not-hold_nu
     }
 
 pub returns : goal.returns
-returns g c = let at = g.P.Place.at in let held = c.if-not-hold_number.ensures in let tried = c.try_tries-posted.ensures in
+returns g c = let at = g.P.WhichPart.at in let held = c.if-not-hold_number.ensures in let tried = c.try_tries-posted.ensures in
     let settled = c.settle_value.ensures in
     let put = put_settled at c.args.item c.args.value c.exchange.result c.args.chair.now c.hold_number.new.chair c.exchange.new.self c.args.sent.now
     c.hold_number.new.sent c.requires.slots c.requires.item held.seen held.slots held.sends held.learns c.exchange.ensures.exchanged

@@ -11,7 +11,7 @@ use Rattle.wq_calls.proofs.valued.settle_value.Goals as goal
 
 pub returns-in-Queued : goal.returns-in-Queued
 returns-in-Queued g c = let k = c.args.item in let a = c.args.chair.now in let is = sym c.in-Queued.is in
-    let s = sender_view (sending_in g.P.Place.at a c.args.sent.now) in let r : ValueAnswer g.row.V.Denot = Queued c.in-Queued.first c.in-Queued.wakes in
+    let s = sender_view (sending_in g.P.WhichPart.at a c.args.sent.now) in let r : ValueAnswer g.row.V.Denot = Queued c.in-Queued.first c.in-Queued.wakes in
     record {
       sends = c.requires.sends;
       learns = inl refl;
@@ -24,7 +24,7 @@ take_value-value-requires g c =
     record { filled = subst (λ (p : Posted). IsFilledAfter p c.args.item c.args.chair.now) c.in-Closed.is c.requires.filled }
 
 pub find_closed-requires : goal.find_closed-requires
-find_closed-requires g c = let at = g.P.Place.at in let k = c.args.item in let a = c.args.chair.now in let s = c.args.sent.now in let is = c.in-Closed.is in
+find_closed-requires g c = let at = g.P.WhichPart.at in let k = c.args.item in let a = c.args.chair.now in let s = c.args.sent.now in let is = c.in-Closed.is in
     let v = c.take_value-value in let ready = taken_ready at k v.result a v.new.chair s v.ensures.exchanged c.requires.sends c.requires.item
     (subst (λ (p : Posted). IsHeldAfter p k (sender_view (sending_in at a s))) is c.requires.held) in record {
       sends = ready.0;
@@ -35,7 +35,7 @@ find_closed-requires g c = let at = g.P.Place.at in let k = c.args.item in let a
     }
 
 pub returns-in-Closed : goal.returns-in-Closed
-returns-in-Closed g c = let at = g.P.Place.at in let k = c.args.item in let a = c.args.chair.now in let s = c.args.sent.now in
+returns-in-Closed g c = let at = g.P.WhichPart.at in let k = c.args.item in let a = c.args.chair.now in let s = c.args.sent.now in
     let is = sym c.in-Closed.is in let v = c.take_value-value in let b = v.new.chair in let x = v.ensures.exchanged in
     let e = c.find_closed.ensures in let end = c.find_closed.new.chair in let now = sender_view (sending_in at end c.find_closed.new.sent) in
     record {
@@ -51,7 +51,7 @@ take_value-value-requires-in-Draining g c =
     record { filled = subst (λ (p : Posted). IsFilledAfter p c.args.item c.args.chair.now) c.in-Draining.is c.requires.filled }
 
 pub turn_back-requires : goal.turn_back-requires
-turn_back-requires g c = let at = g.P.Place.at in let k = c.args.item in let a = c.args.chair.now in let s = c.args.sent.now in let is = c.in-Draining.is in
+turn_back-requires g c = let at = g.P.WhichPart.at in let k = c.args.item in let a = c.args.chair.now in let s = c.args.sent.now in let is = c.in-Draining.is in
     let v = c.take_value-value-in-Draining in let ready = taken_ready at k v.result a v.new.chair s v.ensures.exchanged c.requires.sends c.requires.item
     (subst (λ (p : Posted). IsHeldAfter p k (sender_view (sending_in at a s))) is c.requires.held) in record {
       sends = ready.0;
@@ -62,7 +62,7 @@ turn_back-requires g c = let at = g.P.Place.at in let k = c.args.item in let a =
     }
 
 pub returns-in-Draining : goal.returns-in-Draining
-returns-in-Draining g c = let at = g.P.Place.at in let k = c.args.item in let a = c.args.chair.now in let s = c.args.sent.now in
+returns-in-Draining g c = let at = g.P.WhichPart.at in let k = c.args.item in let a = c.args.chair.now in let s = c.args.sent.now in
     let is = sym c.in-Draining.is in let v = c.take_value-value-in-Draining in let b = v.new.chair in let x = v.ensures.exchanged in
     let e = c.turn_back.ensures in let end = c.turn_back.new.chair in let now = sender_view (sending_in at end c.turn_back.new.sent) in
     record {
@@ -78,7 +78,7 @@ take_value-value-requires-in-Contended g c =
     record { filled = subst (λ (p : Posted). IsFilledAfter p c.args.item c.args.chair.now) c.in-Contended.is c.requires.filled }
 
 pub give_up-requires : goal.give_up-requires
-give_up-requires g c = let at = g.P.Place.at in let k = c.args.item in let a = c.args.chair.now in let s = c.args.sent.now in let is = c.in-Contended.is in
+give_up-requires g c = let at = g.P.WhichPart.at in let k = c.args.item in let a = c.args.chair.now in let s = c.args.sent.now in let is = c.in-Contended.is in
     let v = c.take_value-value-in-Contended in let ready = taken_ready at k v.result a v.new.chair s v.ensures.exchanged c.requires.sends c.requires.item
     (subst (λ (p : Posted). IsHeldAfter p k (sender_view (sending_in at a s))) is c.requires.held) in record {
       sends = ready.0;
@@ -88,7 +88,7 @@ give_up-requires g c = let at = g.P.Place.at in let k = c.args.item in let a = c
     }
 
 pub returns-in-Contended : goal.returns-in-Contended
-returns-in-Contended g c = let at = g.P.Place.at in let k = c.args.item in let a = c.args.chair.now in let s = c.args.sent.now in
+returns-in-Contended g c = let at = g.P.WhichPart.at in let k = c.args.item in let a = c.args.chair.now in let s = c.args.sent.now in
     let is = sym c.in-Contended.is in let v = c.take_value-value-in-Contended in let b = v.new.chair in let x = v.ensures.exchanged in
     let e = c.give_up.ensures in let end = c.give_up.new.chair in let now = sender_view (sending_in at end c.give_up.new.sent) in
     record {

@@ -28,7 +28,7 @@ returns-in-Contended g c =
     let w = g.W.ValueWork in let k = c.in-Some.item in let rest = c.next.new.self.pairs in let d = c.in-Contended.ensures.deals in
     record {
       settles = dealt_owed w.log w.given w.takes c.loop-item.invariant c.in-Some.ensures.first d.1
-          (c.put_back.ensures.first ∙ ap (λ (u : g.row.V.Denot). (k, u) ∷ rest) d.0);
+          (c.put_in_front.ensures.first ∙ ap (λ (u : g.row.V.Denot). (k, u) ∷ rest) d.0);
     }
 
 pub returns : goal.returns

@@ -1,11 +1,11 @@
-use Rattle.wq_delay.proofs.Common.{◌≡◌, ◌+◌, List, length, replicate, None, vec_capacity, Option, sym, refl, subst, arith, rules, Place, DueItem, IsTimetable}
+use Rattle.wq_delay.proofs.Common.{◌≡◌, ◌+◌, List, length, replicate, None, vec_capacity, Option, sym, refl, subst, arith, rules, DuePlace, DueItem, IsTimetable}
 use Rattle.wq_delay.proofs.Earliest.{earliest_new}
 use Rattle.wq_delay.proofs.Starting.{nothing_in, no_entries, timetable_new}
 use Rattle.wq_delay.proofs.timetable.Timetable.new.Goals as goal
 
 pub invariant_of-result : goal.invariant_of-result
 invariant_of-result c =
-    let places : List (Option Place) = c.in_ok-vec.field-0.items in
+    let places : List (Option DuePlace) = c.in_ok-vec.field-0.items in
     let is : places ≡ replicate c.args.size None = c.in_ok-vec.ensures.items_if_clones_equal (λ y clone. search rules) in
     let size : length places ≡ c.args.size = omega (arith, c.in_ok-vec.ensures.len, c.in_ok-vec.field-0.ok.0) in (
       subst (λ (z : List DueItem). IsTimetable places c.in_ok-new.field-0.next.items c.in_ok-new.field-0.previous.items z
@@ -18,7 +18,7 @@ invariant_of-result c =
 
 pub returns : goal.returns
 returns c =
-    let places : List (Option Place) = c.in_ok-vec.field-0.items in
+    let places : List (Option DuePlace) = c.in_ok-vec.field-0.items in
     let is : places ≡ replicate c.args.size None = c.in_ok-vec.ensures.items_if_clones_equal (λ y clone. search rules) in
     let size : length places ≡ c.args.size = omega (arith, c.in_ok-vec.ensures.len, c.in_ok-vec.field-0.ok.0) in
     (size, no_entries places c.args.size is size, refl)

@@ -2,7 +2,7 @@ use Rattle.std.proofs.lemmas.Result.{on_ok_weaker}
 use Rattle.wq_script.proofs.Common.{◌∙◌, ◌++◌, ◌≤◌, sym, ap, refl, arith, string_bytes, subst, codes, None, append_assoc, line, row_text, left_text, ends_at}
 use Rattle.wq_script.proofs.Common.{ended_since, ScriptState, after_row, wrote, drained, drain_open, drain_closed, Meets, size, executions_few}
 use Rattle.wq_text.specs.declared.command.Command.TheVariants as command
-use Rattle.wq_meaning.specs.declared.report.Counts.{Counts}
+use Rattle.wq_meaning.specs.declared.report.ReportCounts.{ReportCounts}
 use Rattle.wq_script.proofs.Meetings.{engine, ran_meets}
 use Rattle.wq_script.proofs.engine.Engine.drain.Goals as goal
 
@@ -54,7 +54,7 @@ returns c =
           (c.deref.ensures.value ∙ r.1) in
           let size_now : size (drained e.layout s c.args.limit) ≤ 2305843009213693952 =
           omega (arith, executions_few e.layout.senders s.follows (ends_at None) c.args.limit s.history m.short, c.ranges.limit, few) in
-          let left = ap (λ (counts : Counts). counts.waiting) (c.counts.ensures (drained e.layout s c.args.limit) r.0 size_now) in
+          let left = ap (λ (counts : ReportCounts). counts.waiting) (c.counts.ensures (drained e.layout s c.args.limit) r.0 size_now) in
           wrote e.layout s (drained e.layout s c.args.limit) (command.Drain c.args.limit) _ _ _ so.0 so.1
           (written ∙ (ap (λ x. x ++ line (left_text c.counts.result.waiting)) row ∙ (append_assoc (string_bytes c.args.out.now) _ _
           ∙ ap (λ n. string_bytes c.args.out.now ++

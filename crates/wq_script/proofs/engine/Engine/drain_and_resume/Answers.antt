@@ -1,7 +1,7 @@
 use Rattle.std.proofs.lemmas.Result.{on_ok_weaker}
 use Rattle.wq_script.proofs.Common.{◌∙◌, ◌++◌, ◌≤◌, ap, arith, string_bytes, codes, append_assoc, line, row_text, left_text, ended_since}
 use Rattle.wq_script.proofs.Common.{ScriptState, after_drain, size}
-use Rattle.wq_meaning.specs.declared.report.Counts.{Counts}
+use Rattle.wq_meaning.specs.declared.report.ReportCounts.{ReportCounts}
 use Rattle.wq_script.proofs.Drains.{drain_few}
 use Rattle.wq_script.proofs.engine.Engine.drain_and_resume.Goals as goal
 
@@ -28,7 +28,7 @@ returns c =
           let row = c.in_ok-write_row.ensures.written ∙ (λ i. string_bytes c.args.out.now ++ row_text (d.layout i) (codes "ran")
           ((c.deref.ensures.value ∙ d.ran_is s m) i)) in
           let size_now : size t ≤ 2305843009213693952 = omega (arith, drain_few e.layout s c.args.limit m.short, c.ranges.limit, few) in
-          let left = ap (λ (counts : Counts). counts.waiting) (c.counts.ensures t (d.meets s m) size_now) in
+          let left = ap (λ (counts : ReportCounts). counts.waiting) (c.counts.ensures t (d.meets s m) size_now) in
           written ∙ (ap (λ x. x ++ line (left_text c.counts.result.waiting)) row ∙ (append_assoc (string_bytes c.args.out.now) _ _
           ∙ ap (λ n. string_bytes c.args.out.now ++
           (row_text e.layout (codes "ran") (ended_since s.history t.history) ++ line (left_text n))) left));

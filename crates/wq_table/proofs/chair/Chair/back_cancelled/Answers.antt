@@ -9,19 +9,19 @@ use Rattle.wq_table.proofs.chair.Chair.back_cancelled.Goals as goal
 
 pub and-requires-clause-place : goal.and-requires-clause-place
 and-requires-clause-place g c = let s = c.self.inside in let it = c.args.self.now in let sits = c.self.invariant in let view = c.self.view_is in
-    let at = g.P.Place.at in let p = part_at at (standing_of it) in
+    let at = g.P.WhichPart.at in let p = part_at at (standing_of it) in
     item_room_in s it sits view at _ c.args.number c.item_place-place.ensures.place c.requires.number
 
 pub and-requires-clause-performs : goal.and-requires-clause-performs
 and-requires-clause-performs g c = let s = c.self.inside in let it = c.args.self.now in let sits = c.self.invariant in
-    let view = c.self.view_is in let at = g.P.Place.at in let p = part_at at (standing_of it) in let k = c.args.number in
+    let view = c.self.view_is in let at = g.P.WhichPart.at in let p = part_at at (standing_of it) in let k = c.args.number in
     placed p (λ (n : ℕ). step.Back n Cancelled) _ k _ _ (item_at_part s it sits view at _ k c.item_place-place.ensures.place)
     (steps.performs_back p.seat p.layout p.seen p.words k Cancelled p.stage (saw_any Cancelled p.stage
     (λ _. tt) c.requires.sender) c.requires.number c.requires.held)
 
 pub and-requires-clause-goes : goal.and-requires-clause-goes
 and-requires-clause-goes g c = let s = c.self.inside in let it = c.args.self.now in let sits = c.self.invariant in let view = c.self.view_is in
-    let at = g.P.Place.at in let p = part_at at (standing_of it) in let k = c.args.number in
+    let at = g.P.WhichPart.at in let p = part_at at (standing_of it) in let k = c.args.number in
     subst (λ (n : ℕ). GoesBy it.queue.slots p None (step.Back n Cancelled) it.hand) (sym (number_placed _ k p.layout
     (item_at_part s it sits view at _ k c.item_place-place.ensures.place)))
     (by_either it.queue.slots p None (step.Back k Cancelled) it.hand (λ some_slot. subst (GoesBy it.queue.slots p None (step.Back k Cancelled)) (sym
@@ -30,11 +30,11 @@ and-requires-clause-goes g c = let s = c.self.inside in let it = c.args.self.now
 
 pub returns : goal.returns
 returns g c = let s = c.self.inside in let it = c.args.self.now in let sits = c.self.invariant in let view = c.self.view_is in
-    let at = g.P.Place.at in let p = part_at at (standing_of it) in
+    let at = g.P.WhichPart.at in let p = part_at at (standing_of it) in
     record {
       step = (
         c.and.result,
-        subst (λ (n : ℕ). ValueSteps g.P.Place.at None (step.Back n Cancelled) c.and.result it c.and.new.self)
+        subst (λ (n : ℕ). ValueSteps g.P.WhichPart.at None (step.Back n Cancelled) c.and.result it c.and.new.self)
             (number_placed _ c.args.number p.layout (item_at_part s it sits view at _ c.args.number c.item_place-place.ensures.place)) c.and.ensures,
       );
     }

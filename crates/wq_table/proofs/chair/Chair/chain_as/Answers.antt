@@ -8,18 +8,18 @@ use Rattle.wq_table.proofs.chair.Chair.chain_as.Goals as goal
 
 pub or-requires-clause-place : goal.or-requires-clause-place
 or-requires-clause-place g c = let s = c.self.inside in let it = c.args.self.now in let sits = c.self.invariant in let view = c.self.view_is in
-    let at = g.P.Place.at in let p = part_at at (standing_of it) in
+    let at = g.P.WhichPart.at in let p = part_at at (standing_of it) in
     item_room_in s it sits view at _ c.args.number c.item_place-place.ensures.place (let item = c.requires.item in omega arith)
 
 pub or-requires-clause-performs : goal.or-requires-clause-performs
 or-requires-clause-performs g c = let s = c.self.inside in let it = c.args.self.now in let sits = c.self.invariant in
-    let view = c.self.view_is in let at = g.P.Place.at in let p = part_at at (standing_of it) in let k = c.args.number in
+    let view = c.self.view_is in let at = g.P.WhichPart.at in let p = part_at at (standing_of it) in let k = c.args.number in
     placed p (λ (n : ℕ). step.Chain n) _ k _ _ (item_at_part s it sits view at _ k c.item_place-place.ensures.place)
     (steps.performs_chain p.seat p.layout p.seen p.words k p.stage c.requires.item c.requires.shut c.requires.walked c.requires.runs)
 
 pub or-requires-clause-goes : goal.or-requires-clause-goes
 or-requires-clause-goes g c = let s = c.self.inside in let it = c.args.self.now in let sits = c.self.invariant in let view = c.self.view_is in
-    let at = g.P.Place.at in let p = part_at at (standing_of it) in let k = c.args.number in
+    let at = g.P.WhichPart.at in let p = part_at at (standing_of it) in let k = c.args.number in
     subst (λ (n : ℕ). GoesBy it.queue.slots p g.G.Says.said (step.Chain n) it.hand) (sym (number_placed _ k p.layout
     (item_at_part s it sits view at _ k c.item_place-place.ensures.place)))
     (by_either it.queue.slots p g.G.Says.said (step.Chain k) it.hand
@@ -28,8 +28,8 @@ or-requires-clause-goes g c = let s = c.self.inside in let it = c.args.self.now 
 
 pub returns : goal.returns
 returns g c = let s = c.self.inside in let it = c.args.self.now in let sits = c.self.invariant in let view = c.self.view_is in
-    let at = g.P.Place.at in let p = part_at at (standing_of it) in
+    let at = g.P.WhichPart.at in let p = part_at at (standing_of it) in
     record {
-      step = subst (λ (n : ℕ). ValueSteps g.P.Place.at g.G.Says.said (step.Chain n) c.or.result it c.or.new.self)
+      step = subst (λ (n : ℕ). ValueSteps g.P.WhichPart.at g.G.Says.said (step.Chain n) c.or.result it c.or.new.self)
           (number_placed _ c.args.number p.layout (item_at_part s it sits view at _ c.args.number c.item_place-place.ensures.place)) c.or.ensures;
     }

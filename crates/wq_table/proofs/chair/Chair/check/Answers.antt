@@ -8,18 +8,18 @@ use Rattle.wq_table.proofs.chair.Chair.check.Goals as goal
 
 pub load-requires-clause-place : goal.load-requires-clause-place
 load-requires-clause-place g c = let s = c.self.inside in let it = c.args.self.now in let sits = c.self.invariant in let view = c.self.view_is in
-    let at = g.P.Place.at in let p = part_at at (standing_of it) in
+    let at = g.P.WhichPart.at in let p = part_at at (standing_of it) in
     item_room_in s it sits view at _ c.args.number c.item_place-place.ensures.place c.requires.number
 
 pub load-requires-clause-performs : goal.load-requires-clause-performs
 load-requires-clause-performs g c = let s = c.self.inside in let it = c.args.self.now in let sits = c.self.invariant in
-    let view = c.self.view_is in let at = g.P.Place.at in let p = part_at at (standing_of it) in let k = c.args.number in
+    let view = c.self.view_is in let at = g.P.WhichPart.at in let p = part_at at (standing_of it) in let k = c.args.number in
     placed p (λ (n : ℕ). step.Check n) _ k _ _ (item_at_part s it sits view at _ k c.item_place-place.ensures.place)
     (steps.performs_check p.seat p.layout p.seen p.words k p.stage c.requires.sender c.requires.number)
 
 pub load-requires-clause-goes : goal.load-requires-clause-goes
 load-requires-clause-goes g c = let s = c.self.inside in let it = c.args.self.now in let sits = c.self.invariant in let view = c.self.view_is in
-    let at = g.P.Place.at in let p = part_at at (standing_of it) in let k = c.args.number in
+    let at = g.P.WhichPart.at in let p = part_at at (standing_of it) in let k = c.args.number in
     subst (λ (n : ℕ). GoesBy it.queue.slots p None (step.Check n) it.hand) (sym (number_placed _ k p.layout
     (item_at_part s it sits view at _ k c.item_place-place.ensures.place)))
     (by_either it.queue.slots p None (step.Check k) it.hand (λ some_slot. by.by_check p.seat p.layout p.seen p.words k it.queue.slots it.hand p.stage
@@ -27,8 +27,8 @@ load-requires-clause-goes g c = let s = c.self.inside in let it = c.args.self.no
 
 pub returns : goal.returns
 returns g c = let s = c.self.inside in let it = c.args.self.now in let sits = c.self.invariant in let view = c.self.view_is in
-    let at = g.P.Place.at in let p = part_at at (standing_of it) in
+    let at = g.P.WhichPart.at in let p = part_at at (standing_of it) in
     record {
-      step = subst (λ (n : ℕ). ValueSteps g.P.Place.at None (step.Check n) c.load.result it c.load.new.self)
+      step = subst (λ (n : ℕ). ValueSteps g.P.WhichPart.at None (step.Check n) c.load.result it c.load.new.self)
           (number_placed _ c.args.number p.layout (item_at_part s it sits view at _ c.args.number c.item_place-place.ensures.place)) c.load.ensures;
     }

@@ -9,7 +9,7 @@ use Rattle.wq_table.proofs.chair.Chair.push.Goals as goal
 
 pub replace-requires-clause-performs : goal.replace-requires-clause-performs
 replace-requires-clause-performs g c = let s = c.self.inside in let it = c.args.self.now in let sits = c.self.invariant in
-    let view = c.self.view_is in let at = g.P.Place.at in let p = part_at at (standing_of it) in let k = c.args.number in
+    let view = c.self.view_is in let at = g.P.WhichPart.at in let p = part_at at (standing_of it) in let k = c.args.number in
     let back = number_pushed _ k c.to_word-word.ensures.word in
     subst (λ (z : ℕ × ℕ). Performs p (step.Push z.0) 0 (λ n. either (n == c.args.seen) z.1 n) (λ n. n)) (λ i.
     (sym back i, sym c.to_word-word.ensures.word i))
@@ -17,7 +17,7 @@ replace-requires-clause-performs g c = let s = c.self.inside in let it = c.args.
 
 pub replace-requires-clause-goes : goal.replace-requires-clause-goes
 replace-requires-clause-goes g c = let s = c.self.inside in let it = c.args.self.now in let sits = c.self.invariant in
-    let view = c.self.view_is in let at = g.P.Place.at in let p = part_at at (standing_of it) in let k = c.args.number in
+    let view = c.self.view_is in let at = g.P.WhichPart.at in let p = part_at at (standing_of it) in let k = c.args.number in
     subst (λ (n : ℕ). GoesBy it.queue.slots p None (step.Push n) it.hand) (sym (number_pushed _ k c.to_word-word.ensures.word))
     (by_either it.queue.slots p None (step.Push k) it.hand (λ some_slot. let slot = c.requires.slot some_slot in
     subst (GoesBy it.queue.slots p None (step.Push k)) (sym slot.1)
@@ -26,6 +26,6 @@ replace-requires-clause-goes g c = let s = c.self.inside in let it = c.args.self
 
 pub returns : goal.returns
 returns g c = record {
-  step = subst (λ (n : ℕ). ValueSteps g.P.Place.at None (step.Push n) c.replace.result c.args.self.now c.replace.new.self)
+  step = subst (λ (n : ℕ). ValueSteps g.P.WhichPart.at None (step.Push n) c.replace.result c.args.self.now c.replace.new.self)
       (number_pushed _ c.args.number c.to_word-word.ensures.word) c.replace.ensures;
 }

@@ -4,7 +4,7 @@ use Rattle.wq_table.proofs.SlotTold.{seat_is, room, slots_are, told_values, sits
 use Rattle.wq_table.proofs.chair.Chair.swap.Goals as goal
 
 pub swap-requires : goal.swap-requires
-swap-requires g c = let s = c.self.inside in let it = c.args.self.now in let sits = c.self.invariant in let at = g.P.Place.at in (
+swap-requires g c = let s = c.self.inside in let it = c.args.self.now in let sits = c.self.invariant in let at = g.P.WhichPart.at in (
   search rules,
   room s it sits c.self.view_is at c.deref.result.now c.args.place c.deref.ensures c.requires.place,
   goes_values _ _ _ at it.first it.others it.hand s.seat.me (g.K.Kind.step c.args.place 0) c.args.place _ _ None
@@ -13,12 +13,12 @@ swap-requires g c = let s = c.self.inside in let it = c.args.self.now in let sit
 
 pub returns : goal.returns
 returns g c = let s = c.self.inside in let it = c.args.self.now in
-    told_values s.layout g.P.Place.at c.deref.result.now.shared.table_id.slots
+    told_values s.layout g.P.WhichPart.at c.deref.result.now.shared.table_id.slots
     (g.K.Kind.step c.args.place 0) None c.swap.result it s.seat.me c.swap.new.seat.me c.swap.new.seat.table_id
     (seat_is s it c.self.invariant c.self.view_is) (slots_are s it c.self.invariant c.self.view_is c.deref.result.now c.deref.ensures)
     (search rules) c.swap.ensures.2
 
 pub invariant_of-self : goal.invariant_of-self
 invariant_of-self g c = let s = c.self.inside in
-    sits_step g.P.Place.at c.deref.result.now.shared.table_id.slots
+    sits_step g.P.WhichPart.at c.deref.result.now.shared.table_id.slots
     (g.K.Kind.step c.args.place 0) None c.swap.result c.swap.new.seat.me s _ c.self.invariant c.swap.ensures.2 refl refl refl (search rules) refl

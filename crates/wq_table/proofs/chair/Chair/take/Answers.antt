@@ -6,10 +6,10 @@ use Rattle.wq_table.proofs.ByKind as by
 use Rattle.wq_table.proofs.chair.Chair.take.Goals as goal
 
 pub swap-requires-clause-performs : goal.swap-requires-clause-performs
-swap-requires-clause-performs g c = let it = c.args.self.now in let at = g.P.Place.at in let p = part_at at (standing_of it) in
+swap-requires-clause-performs g c = let it = c.args.self.now in let at = g.P.WhichPart.at in let p = part_at at (standing_of it) in
     steps.performs_take p.seat p.layout p.seen p.words p.stage c.requires.open c.requires.walked c.requires.empty
 
 pub swap-requires-clause-goes : goal.swap-requires-clause-goes
-swap-requires-clause-goes g c = let it = c.args.self.now in let at = g.P.Place.at in
+swap-requires-clause-goes g c = let it = c.args.self.now in let at = g.P.WhichPart.at in
     let p = part_at at (standing_of it) in by_either it.queue.slots p None step.Take it.hand
     (λ some_slot. by.by_take p.seat p.layout p.seen p.words it.queue.slots it.hand p.stage c.requires.walked)

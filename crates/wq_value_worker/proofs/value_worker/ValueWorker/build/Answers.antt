@@ -14,7 +14,7 @@ pub new-requires : goal.new-requires
 new-requires g c = let o = c.in-Ok.ensures in let P = λ (k : KnownWith g.row.V.Denot). k.known.queue ≡ c.in-Ok.owner.known.queue in record {
   one = all_last P c.pop.new.self.items c.in-Some.sender (subst (All P) c.in-Some.ensures.items o.one);
   tries = c.requires.tries;
-  unbegun = ap begun o.unseen.0;
+  none_begun = ap begun o.unseen.0;
   unrun = c.requires.unrun;
 }
 

@@ -10,7 +10,7 @@ invariant_of-result g c =
       some_try = c.requires.tries;
       whole = e.learnt.0.as_many;
       logged = c.requires.unrun ∙ ap (λ (ks : List ℕ). pairs_of ks (handed_in (owner_of p)))
-          (sym (joined_begun c.args.owner.known p.known e.owner c.requires.unbegun));
+          (sym (joined_begun c.args.owner.known p.known e.owner c.requires.none_begun));
     }
 
 pub returns : goal.returns
@@ -22,6 +22,6 @@ returns g c =
       sender = e.sender.grows;
       learnt = e.learnt;
       legal = e.owner.legal;
-      idle = joined_idle o p.known e.owner c.requires.unbegun;
+      idle = joined_idle o p.known e.owner c.requires.none_begun;
       «open» = joined_open o p.known e.owner;
     }

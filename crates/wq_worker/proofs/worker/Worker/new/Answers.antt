@@ -9,7 +9,7 @@ invariant_of-result g c =
       numbered = e.low;
       some_try = c.requires.tries;
       within = omega arith;
-      logged = c.requires.unrun ∙ ap (items_among p.layout) (sym (joined_begun c.args.owner p e.owner c.requires.unbegun));
+      logged = c.requires.unrun ∙ ap (items_among p.layout) (sym (joined_begun c.args.owner p e.owner c.requires.none_begun));
     }
 
 pub returns-clause-owner : goal.returns-clause-owner
@@ -22,7 +22,7 @@ pub returns-clause-legal : goal.returns-clause-legal
 returns-clause-legal g c = c.join-pair.ensures.owner.legal
 
 pub returns-clause-idle : goal.returns-clause-idle
-returns-clause-idle g c = joined_idle c.args.owner c.join-pair.result c.join-pair.ensures.owner c.requires.unbegun
+returns-clause-idle g c = joined_idle c.args.owner c.join-pair.result c.join-pair.ensures.owner c.requires.none_begun
 
 pub returns-clause-open : goal.returns-clause-open
 returns-clause-open g c = joined_open c.args.owner c.join-pair.result c.join-pair.ensures.owner

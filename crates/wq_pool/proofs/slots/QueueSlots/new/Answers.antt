@@ -1,7 +1,7 @@
 use Rattle.wq_pool.proofs.Common.{◌≡◌, List, map, length, Some, ap, ◌∙◌, arith, rules, length-map, id_of}
 use Rattle.wq_pool.proofs.Kept.{opens}
 use Rattle.wq_pool.proofs.Hands.{zeros}
-use Rattle.wq_pool.proofs.slots.Slots.new.Goals as goal
+use Rattle.wq_pool.proofs.slots.QueueSlots.new.Goals as goal
 
 pub new-requires : goal.new-requires
 new-requires g c =

@@ -2,7 +2,7 @@ use Rattle.atomic_table.specs.Seated.{TableId}
 use Rattle.wq_pool.proofs.Common.{◌≡◌, ◌<◌, map, length, slice_get, Some, sym, refl, ap, ◌∙◌, subst, rules, id_of, handed_of, SlotsState, GoesOnAt, IsHandedAt}
 use Rattle.wq_pool.proofs.Kept.{comes_allowed, picks_allowed}
 use Rattle.wq_pool.proofs.Hands.{has_picked, has_taken, has_in_hand, front_of}
-use Rattle.wq_pool.proofs.slots.Slots.pick_up.Goals as goal
+use Rattle.wq_pool.proofs.slots.QueueSlots.pick_up.Goals as goal
 
 pub load_new_seat-seat-requires : goal.load_new_seat-seat-requires
 load_new_seat-seat-requires g c =

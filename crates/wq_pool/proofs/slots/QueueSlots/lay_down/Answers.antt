@@ -1,7 +1,7 @@
 use Rattle.atomic_table.specs.Seated.{TableId}
 use Rattle.wq_pool.proofs.Common.{◌≡◌, ◌<◌, sym, ap, ◌∙◌, subst, rules, SlotsState, TurnState}
 use Rattle.wq_pool.proofs.Hands.{lays_filled}
-use Rattle.wq_pool.proofs.slots.Slots.lay_down.Goals as goal
+use Rattle.wq_pool.proofs.slots.QueueSlots.lay_down.Goals as goal
 
 pub swap-requires : goal.swap-requires
 swap-requires g c =
