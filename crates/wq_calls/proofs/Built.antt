@@ -11,7 +11,7 @@ use Rattle.wq_words.proofs.Legal.{legal_nil}
 use Rattle.wq_words.proofs.Written.{each_more}
 use Rattle.wq_core.specs.Machine.{opening}
 use Rattle.wq_core.proofs.Sound.{sound_opening}
-use Rattle.wq_calls.proofs.Chairs.{owner_chair, sender_chair}
+use Rattle.wq_table.proofs.NewChairs.{owner_chair, sender_chair}
 use Rattle.wq_table.specs.SlotChairs.{value_sender, value_owner}
 use Rattle.wq_calls.specs.Known.{new_sender, new_owner}
 use Rattle.wq_calls.specs.Counts.{owner_counts}

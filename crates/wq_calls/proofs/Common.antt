@@ -17,11 +17,11 @@ pub use Rattle.wq_core.specs.Words.{closed_word, draining_word, head_at, item_of
 pub use Rattle.wq_core.specs.declared.step.Step.{Step}
 pub use Rattle.wq_core.specs.declared.step.Step.TheVariants.{Chain, Check, Resume, Turn, Walk}
 pub use Rattle.wq_table.proofs.Beside.{beside_queue}
-pub use Rattle.wq_table.proofs.Learns.{learns_follow, learns_meet, learns_more, learns_on, learns_or, learns_right, learns_step, step_or}
+pub use Rattle.wq_table.proofs.Learns.{learns_follow, learns_meet, learns_more, learns_on, learns_or, learns_step, step_or}
 pub use Rattle.wq_table.proofs.ValueRule.{plain_telling}
 pub use Rattle.wq_table.specs.Beside.{Learns, LearnsOrStays}
 pub use Rattle.wq_table.specs.Chair.{IsSender, Standing, Steps}
-pub use Rattle.wq_calls.proofs.Chairs.{seeing}
+pub use Rattle.wq_table.proofs.NewChairs.{seeing}
 pub use Rattle.wq_table.specs.Law.{HasStage, IsPartOf, seat_at}
 pub use Rattle.wq_table.specs.Plays.{Makes, all_see, see, stage_after}
 pub use Rattle.wq_table.specs.SlotChairs.{HasValue, ValueStanding, ValueSteps, knowing, part_in, standing_of, value_senders}

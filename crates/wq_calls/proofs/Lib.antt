@@ -1,4 +1,3 @@
-pub mod Chairs
 pub mod Common
 pub mod Growing
 pub mod Tells
@@ -18,7 +17,6 @@ pub mod Turning
 pub mod Linking
 pub mod Hanging
 pub mod TurnedHands
-pub mod Fresh
 pub mod Taken
 pub mod Taking
 pub mod ValueHands
@@ -39,9 +37,15 @@ pub mod Rest
 pub mod Held
 pub mod ValueSeats
 pub mod InOneSeat
-pub mod OwnAccepted
 pub mod OwnBrought
 pub mod Handed
 pub mod HandedOver
 pub mod OwnerStays
 pub mod Refused
+pub mod NextTold
+pub mod PhaseKept
+pub mod Refusals
+pub mod Others
+pub mod ValueJoined
+pub mod ValueBooks
+pub mod HeldAfter

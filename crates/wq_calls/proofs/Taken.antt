@@ -18,7 +18,7 @@ use Rattle.wq_core.specs.Words.{word_at}
 use Rattle.wq_core.specs.Sound.{IsChain}
 use Rattle.wq_core.proofs.Chains.{chain_zero}
 use Rattle.wq_calls.proofs.Owned.{begun_on}
-use Rattle.wq_calls.proofs.Fresh.{fresh_unclosed}
+use Rattle.wq_words.proofs.Fresh.{fresh_unclosed}
 
 -- what is accepted has begun, is in the batch, or is on the list
 pub walked_lengths : (m : Machine) → IsSound m → m.cursor ≡ None

@@ -16,7 +16,7 @@ use Rattle.wq_words.proofs.Closed.{closed_push_no, closed_push_yes, shut_quiet, 
 use Rattle.circular_buffer.specs.Buffer.{keep_last}
 use Rattle.wq_check.specs.declared.queue.Place.TheVariants.{Held, Waiting}
 use Rattle.wq_check.specs.Checked.{QueueState, queue_state, place_by_keeper, StandsAfter}
-use Rattle.wq_check.proofs.Waits.{few_unbegun}
+use Rattle.wq_words.proofs.Waits.{few_unbegun}
 use Rattle.wq_check.proofs.Standing.{number_place}
 
 -- the queue once the event came

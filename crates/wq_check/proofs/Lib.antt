@@ -1,5 +1,4 @@
 pub mod Common
-pub mod Waits
 pub mod Lists
 pub mod Standing
 pub mod Following
@@ -8,4 +7,4 @@ pub mod Unshown
 pub mod ItemPart
 pub mod Looking
 pub mod FollowingMarks
-pub mod Counted
+pub mod OneCause

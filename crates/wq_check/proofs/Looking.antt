@@ -16,7 +16,7 @@ use Rattle.wq_check.specs.declared.cause.Cause.TheVariants as cause
 use Rattle.wq_check.specs.MarkCauses.{HasMarkCause}
 use Rattle.wq_check.specs.TraceChecked.{SeenState, LooksAfter}
 use Rattle.wq_words.proofs.Times.{Contains_from_times, none_from_times}
-use Rattle.wq_check.proofs.Waits.{few_unbegun}
+use Rattle.wq_words.proofs.Waits.{few_unbegun}
 use Rattle.wq_check.proofs.Lists.{drop_some, never_empty}
 use Rattle.wq_check.proofs.Shown.{trace_history, same_unseen, other_unseen}
 use Rattle.wq_check.proofs.Unshown.{Shown, history_shown, fewer}

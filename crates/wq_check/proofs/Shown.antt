@@ -15,7 +15,7 @@ use Rattle.wq_words.proofs.Closed.{shut_quiet, open_from_shut}
 use Rattle.wq_words.proofs.Places.{keeps_from_keeper}
 use Rattle.wq_words.proofs.Appended.{count_by-append}
 use Rattle.wq_check.specs.Shows.{Shows, nothing, hides, queues, begins, starts, ends, ShowsLegalHistory, is_of_items, item_part, ShowsItemsOfLegalHistory}
-use Rattle.wq_check.proofs.Waits.{waits_bit}
+use Rattle.wq_words.proofs.Waits.{waits_bit}
 use Rattle.wq_words.proofs.Times.{times_from_none}
 
 -- the history shows the trace, and at most one execution has begun whose start was not seen

@@ -23,7 +23,7 @@ use Rattle.wq_check.specs.declared.cause.Cause.{Cause}
 use Rattle.wq_check.specs.declared.cause.Cause.TheVariants as cause
 use Rattle.wq_check.specs.Left.{left}
 use Rattle.wq_check.specs.Causes.{HasCause}
-use Rattle.wq_check.proofs.Waits.{waits_bit}
+use Rattle.wq_words.proofs.Waits.{waits_bit}
 use Rattle.wq_words.proofs.Times.{times_from_Contains, Contains_from_times, times-first}
 use Rattle.wq_check.proofs.Lists.{drop_some, never_empty}
 use Rattle.wq_words.proofs.Cases.{none_told}

@@ -15,7 +15,7 @@ use Rattle.wq_words.proofs.Places.{keeper_from_keeps}
 use Rattle.wq_check.specs.Trace.{queued_by, started_by, returned_by, FollowsRules}
 use Rattle.wq_check.specs.Shows.{Shows, nothing, hides, queues, begins, starts, ends, ShowsLegalHistory}
 use Rattle.wq_words.proofs.Times.{none_from_times}
-use Rattle.wq_check.proofs.Waits.{waits_bit}
+use Rattle.wq_words.proofs.Waits.{waits_bit}
 use Rattle.wq_check.proofs.Shown.{nil_end, one_of, zero_or}
 
 -- histories in which numbers begin and end in their order, one at a time, and none is accepted while it waits

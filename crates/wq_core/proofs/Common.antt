@@ -1,10 +1,8 @@
 -- What several proofs of this crate cite of std, of specs and of the crates below, passed on from one place.
-pub use Rattle.std.proofs.Common.{unwrap_or, ◌%◌, ◌^◌, length-set, replicate, IsTrue, ⊎_elim}
+pub use Rattle.std.proofs.Common.{unwrap_or, ◌%◌, ◌^◌, length-set, replicate, ⊎_elim}
 pub use Rattle.std.proofs.lemmas.Bool.{eqb-false, cases_eq, lt-ltb, le-ltb}
 pub use Rattle.std.proofs.lemmas.Grind.{reverse_onto}
 pub use Rattle.std.proofs.lemmas.List.{length-replicate}
-pub use Rattle.std.specs.List.{list_any}
-pub use Rattle.std.specs.Prelude.{Contains}
 pub use mathlib.Core.List.{reverse_aux}
 pub use Rattle.wq_words.specs.Head.{IsWordOf, IsCodable}
 pub use Rattle.wq_words.specs.Listed.{listed_after, listed}
@@ -18,17 +16,17 @@ pub use Rattle.wq_words.specs.declared.layout.Layout.{Layout}
 pub use Rattle.wq_words.proofs.Closed.{closed_from_IsClosed, closed_from_open, IsClosed_from_closed, open_from_closed, closed_push_no, cause_stays}
 pub use Rattle.wq_words.proofs.Closed.{closed_shuts, shut_from_IsShut, shut_from_open, IsShut_from_shut, open_from_shut, shut_quiet, shut_drain, shut_resume}
 pub use Rattle.wq_words.proofs.Drains.{has_drained, at_work_draining}
-pub use Rattle.wq_words.proofs.Common.{◌≡◌, ◌≢◌, ℕ, ◌+◌, ◌<◌, ◌==◌, Bool, true, false, cond, List, [], ◌∷◌, ◌++◌, length, get_or, set, Option, Some, None}
+pub use Rattle.wq_words.proofs.Common.{◌≡◌, ◌≢◌, ℕ, ◌+◌, ◌<◌, ◌==◌, Bool, true, false, List, [], ◌∷◌, ◌++◌, length, get_or, set, Option, Some, None}
 pub use Rattle.wq_words.proofs.Common.{slice_get, refl, sym, ap, ◌∙◌, arith, append_assoc, reverse, ◌≤◌, inl, inr, if◌then◌else◌, nat_lt, take, ◌-◌}
-pub use Rattle.wq_words.proofs.Common.{length-append, ◌↔◌, drop, count_by, append-nil, get_or-set_other, get_or-set_same, length_push}
-pub use Rattle.wq_words.proofs.Common.{length-reverse, take_at, drop_at, sum_by-append, sum_by-cons, fold_push, eqb-true, eq-eqb}
+pub use Rattle.wq_words.proofs.Common.{length-append, ◌↔◌, drop, append-nil, get_or-set_other, get_or-set_same, length_push}
+pub use Rattle.wq_words.proofs.Common.{length-reverse, take_at, drop_at, fold_push, eqb-true, eq-eqb}
 pub use Rattle.wq_words.proofs.Common.{ne_eqb, head_word, busy_word, number_count, ended, ended_by, closed, is_close, is_drain, is_resume, IsClosed, shut}
 pub use Rattle.wq_words.proofs.Common.{IsShut, IsDraining, IsCause, accepted, begun, accepted_by, begun_by, pending, Holds, IsPending, IsRunning}
 pub use Rattle.wq_words.proofs.Common.{running, taken, first, IsAllowed, IsLegal, Keeper, Home, Sender, Listed, Owner, keeper_after, keeper, taken_over}
 pub use Rattle.wq_words.proofs.Common.{slice_get-get_or, ◌⊎◌, subst}
-pub use Rattle.wq_words.proofs.Growing.{slice_get_last, filter_map_push_none, growing, slice_get_push, count_by_push, filter_map_push_some, slice_get_append}
-pub use Rattle.wq_words.proofs.Keepers.{pending_bit, kept, home_from_bit, sender_from_bit, queue_bit}
-pub use Rattle.wq_words.proofs.Legal.{legal_push, legal_induction, legal_nil}
+pub use Rattle.wq_words.proofs.Growing.{slice_get_last, filter_map_push_none, growing, count_by_push, filter_map_push_some, slice_get_append}
+pub use Rattle.wq_words.proofs.Keepers.{pending_bit, kept, home_from_bit, sender_from_bit}
+pub use Rattle.wq_words.proofs.Legal.{legal_push, legal_nil}
 pub use Rattle.wq_words.proofs.Listed.{listed-shut, length-accepted, fresh-open}
 pub use Rattle.wq_words.proofs.Order.{in_order}
 pub use Rattle.wq_words.proofs.Prefixes.{prefix_length}

@@ -10,3 +10,4 @@ pub mod OwnerSteps
 pub mod Turning
 pub mod Sound
 pub mod Taken
+pub mod Operations

@@ -18,7 +18,6 @@ pub mod Finding
 pub mod Found
 pub mod Earliest
 pub mod Starting
-pub mod Held
 pub mod Sound
 pub mod OnTable
 pub mod Going

@@ -1,7 +1,7 @@
 -- Which items are on the table after an entry was placed, or an item taken off.
 use Rattle.wq_delay.proofs.Common.{◌≡◌, ℕ, Bool, true, false, not, ◌||◌, ◌&&◌, ◌≢◌, List, [], ◌∷◌, length, refl, ap, ◌∙◌}
 use Rattle.wq_delay.proofs.Common.{Entry, DelayTable, DelayState, Known, Holds, on_table, placed, without, on_table-placed, on_table-without}
-use Rattle.wq_delay.proofs.Held.{HoldsAll}
+use Rattle.wq_calls.proofs.HeldAfter.{HoldsAll}
 use Rattle.wq_delay.specs.Delay.{PostsOne}
 use Rattle.wq_words.specs.Armed.{armed_of}
 use Rattle.wq_live.specs.Laws.{queued_number}

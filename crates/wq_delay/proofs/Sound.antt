@@ -6,7 +6,7 @@ use Rattle.wq_live.specs.Answers.{Answers, Posts}
 use Rattle.wq_delay.proofs.Common.{◌≡◌, ℕ, ◌+◌, ◌<◌, Bool, true, false, cond, not, ◌&&◌, ◌||◌, List, [], ◌∷◌, ◌==◌, sym, refl, ap, ◌∙◌, subst, arith, eqb-true}
 use Rattle.wq_delay.proofs.Common.{nat_tests, Event, Back, Push, Hold, Layout, Holds, Entry, without, on_table, placed, IsLegal, all-more, on_table-without}
 use Rattle.wq_delay.proofs.Common.{ordered-placed, ordered-without, all-placed, all-without, on_table-placed, Known, Sees, DelayState, IsFit, FitsTable}
-use Rattle.wq_delay.proofs.Held.{starts, stops, HoldsAll, holds_same, holds_more, holds_less, free_before}
+use Rattle.wq_calls.proofs.HeldAfter.{starts, stops, HoldsAll, holds_same, holds_more, holds_less, free_before}
 use Rattle.wq_words.specs.declared.event.Why.TheVariants as why
 use Rattle.wq_words.specs.declared.answer.Answer.TheVariants as answer
 use Rattle.wq_words.specs.declared.answer.Posted.TheVariants as posted

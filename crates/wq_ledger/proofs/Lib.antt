@@ -3,3 +3,4 @@ pub mod Meeting
 pub mod Pushes
 pub mod Summing
 pub mod Balancing
+pub mod Counts

@@ -19,7 +19,6 @@ pub use Rattle.wq_words.specs.History.{Holds, IsClosed, IsDraining, IsRunning, I
 pub use Rattle.wq_words.specs.Legal.{HasRunOut, IsComplete, IsLegal}
 pub use Rattle.wq_words.specs.Numbers.{barrier_number, number_count}
 pub use Rattle.wq_words.specs.Seen.{own, owner_seat}
-pub use Rattle.wq_words.specs.declared.answer.Answer.{Answer}
 pub use Rattle.wq_words.specs.declared.answer.Posted.{Posted}
 pub use Rattle.wq_words.specs.declared.event.Event.{Event}
 pub use Rattle.wq_words.specs.declared.event.Event.TheVariants.{Back, Begin, Close, Drain, End, Hold, Push, Resume, Take}
@@ -27,7 +26,7 @@ pub use Rattle.wq_words.specs.declared.layout.Layout.{Layout}
 pub use Rattle.wq_calls.specs.Answers.{Answers, Chains, IsContended, IsFinal, IsPushed, Posts}
 pub use Rattle.wq_calls.specs.Batch.{batch, next_of}
 pub use Rattle.wq_calls.specs.Counts.{sender_counts}
-pub use Rattle.wq_calls.specs.Hands.{HoldsSlot, OwnsSeat, PostsSlot, QueuesSlot}
+pub use Rattle.wq_calls.specs.Hands.{HoldsSlot, OwnsSeat, PostsSlot}
 pub use Rattle.wq_calls.specs.Known.{IsSame, Known, Sees, new_senders}
 pub use Rattle.wq_calls.specs.Laws.{queued_number}
 pub use Rattle.wq_calls.specs.Pairs.{AreSeated, KnownPair, pair_owner, pair_sender}

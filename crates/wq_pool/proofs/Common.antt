@@ -1,6 +1,6 @@
 -- The names that several proofs cite, passed on from one place. Declares nothing.
 pub use Rattle.std.proofs.Common.{◌≡◌, ℕ, zero, suc, ◌+◌, ◌<◌, ◌≤◌, Bool, true, cond, eqb, ◌≢◌, List, [], ◌∷◌, ◌++◌, map, length, get_or, take, set, replicate}
-pub use Rattle.std.proofs.Common.{slice_get, slice_index_or, Some, None, vec_len, vec_capacity, MatchBool, All, Option, sym, refl, ap, ◌∙◌, subst, inl, inr}
+pub use Rattle.std.proofs.Common.{slice_get, Some, None, vec_len, vec_capacity, MatchBool, All, Option, sym, refl, ap, ◌∙◌, subst, inl, inr}
 pub use Rattle.std.proofs.Common.{append_assoc, arith, length-append, length-set, get_or-set_other, get_or-set_same, rules, eq-eqb, ne_eqb}
 pub use Rattle.std.proofs.lemmas.List.{map-append, append-nil, length-map, length-replicate, map-id}
 pub use Rattle.std.proofs.lemmas.List.Elements.{All-push, All-pop}

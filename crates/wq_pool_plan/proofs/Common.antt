@@ -1,6 +1,6 @@
 -- What the proofs of this crate cite of the crates below it and of its own definitions.
 pub use Rattle.std.proofs.Common.{◌&&◌, vec_len, drop}
-pub use Rattle.std.proofs.lemmas.List.{take_all, get_or_append_left, get_or_push, take_more, get_or-map, length-map}
+pub use Rattle.std.proofs.lemmas.List.{take_all, get_or-map, length-map}
 pub use Rattle.std.proofs.lemmas.List.Elements.{All-take, All-drop}
 pub use Rattle.wq_words.proofs.Written.{each_more, each_written, rest_written, whole_items}
 pub use Rattle.wq_ready.specs.Known.{IsCallerOf}
@@ -13,8 +13,8 @@ pub use Rattle.wq_race.specs.declared.idle.Idle.{Idle}
 pub use Rattle.wq_race.specs.declared.outcome.Outcome.{Outcome}
 pub use Rattle.wq_race.proofs.Balanced.{whole_counts, AreNumbered, one_ledger, last_ledger, no_fault}
 pub use Rattle.wq_race.proofs.Booking.{heard_on, heard_still, heard_one, told_on}
-pub use Rattle.wq_race.proofs.Common.{◌≡◌, ℕ, ◌+◌, ◌*◌, ◌≤◌, Bool, false, List, [], ◌∷◌, length, ap, ◌∙◌, arith, length-append, count_by, IsPrefix, Event}
-pub use Rattle.wq_race.proofs.Common.{capped, SendsAll, SendsOne, pushed, busy, refused, count_by-append, zero, suc, ◌^◌, ◌<◌, true}
+pub use Rattle.wq_race.proofs.Common.{◌≡◌, ℕ, ◌+◌, ◌*◌, ◌≤◌, Bool, false, List, [], ◌∷◌, length, ap, ◌∙◌, arith, length-append, count_by, Event}
+pub use Rattle.wq_race.proofs.Common.{capped, SendsAll, zero, suc, ◌^◌, ◌<◌, true}
 pub use Rattle.wq_race.proofs.Common.{◌++◌, take, get_or, refl, sym, subst, All, MatchBool, AllByRecursion, eqb-true, length-range_with_len, fold_more, Layout}
 pub use Rattle.wq_race.proofs.Common.{is_queued_by, is_chain, IsLegal, IsComplete, own, own-append, own_between, sender_counts, Known, Unbalanced, BookState}
 pub use Rattle.wq_race.proofs.Common.{IsLedgerOf, items_among, HasHeard, AllKnown, IsTold, queued_sum, items_at, IsOfStop, is_push, accepted, ended}

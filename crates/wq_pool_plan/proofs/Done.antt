@@ -20,7 +20,7 @@ use Rattle.wq_ledger.proofs.Pushes.{is_queued_below, below_more, below_none, bel
 use Rattle.wq_race.proofs.Pushed.{IsShared, items_pushed}
 use Rattle.wq_race.proofs.Whole.{queued_own}
 use Rattle.wq_pool_plan.specs.Outcome.{QueueRun, IsQueueRun, accepted_items, ended_items, IsBalanced, IsFaulty, TellsRun, IsOutcomeOf}
-use Rattle.wq_pool_plan.proofs.Counted.{all_few, counts_on, spare}
+use Rattle.wq_race.proofs.Counted.{all_few, counts_on, spare}
 
 abbrev of_counts : Known → ℕ
 of_counts x = (sender_counts x.number x.seen).queued

@@ -2,7 +2,7 @@
 use Rattle.wq_pool_plan.proofs.Common.{◌≡◌, ℕ, ◌+◌, ◌<◌, List, [], ◌∷◌, ◌++◌, length, get_or, sym, ap, ◌∙◌, subst, arith, length-append, each_more, Known}
 use Rattle.wq_pool_plan.proofs.Common.{new_sender, get_or-new_senders, WorkerState, Idle, Plan, IsLayoutOf, IsNewTeam, Group, Teams, AreDealt, AreTeams}
 use Rattle.wq_race.specs.declared.team.Team.{Team}
-use Rattle.wq_pool_plan.proofs.Places.{both_more}
+use Rattle.wq_words.proofs.AtPlaces.{both_more}
 
 -- the first m of the groups were turned
 pub record AreTurnedSoFar (m count : ℕ) (groups turned : List Group) : Type 0 where

@@ -4,7 +4,7 @@ use Rattle.wq_pool_plan.proofs.Common.{◌≡◌, ℕ, zero, suc, ◌+◌, ◌-�
 use Rattle.wq_pool_plan.proofs.Common.{inr, refl, sym, ap, ◌∙◌, subst, arith, MatchBool, AllByRecursion, capped, Known, BookState, items_among, Idle, Outcome}
 use Rattle.wq_pool_plan.proofs.Common.{Plan, WorkerId, IsFinished, AreFinished, Group, IsSent, AllSent, all_ended}
 use Rattle.wq_pool_plan.specs.Outcome.{QueueRun, IsQueueRun, accepted_items, ended_items, IsBalanced, IsFaulty, IsSomeFaulty, TellsRun, TellsRuns, AreBoth}
-use Rattle.wq_pool_plan.proofs.Places.{popped}
+use Rattle.wq_words.proofs.AtPlaces.{popped}
 
 pub finished_count : (log : Idle → List ℕ) (ids : List WorkerId) (xs : List (Idle × BookState)) → AreFinished log ids xs → length xs ≡ length ids
 finished_count log [] [] all = refl

@@ -18,14 +18,14 @@ pub use Rattle.wq_words.specs.Legal.{IsLegal, IsComplete, IsAllowed}
 pub use Rattle.wq_words.specs.Numbers.{stop_number}
 pub use Rattle.wq_words.specs.Seen.{own, owner_seat, Grows, seat_of, is_ours}
 pub use Rattle.wq_words.specs.declared.event.Event.{Event}
-pub use Rattle.wq_words.specs.declared.event.Event.TheVariants.{Back, Hold, Busy, Push, Take, Close, Drain, Resume, Begin, End, Chain, ChainBusy, Rest}
+pub use Rattle.wq_words.specs.declared.event.Event.TheVariants.{Back, Hold, Busy, Push, Close, End, Chain}
 pub use Rattle.wq_words.specs.declared.event.Why.{Why}
 pub use Rattle.wq_words.specs.declared.layout.Layout.{Layout}
 pub use Rattle.wq_words.proofs.Appended.{count_by-append, accepted-count}
 pub use Rattle.wq_words.proofs.Counting.{pending_own, closed_own, draining_own, contended_own, chain_own, chain_busy_own}
 pub use Rattle.wq_words.proofs.Prefixes.{prefix_on, prefix_whole, prefix_self}
 pub use Rattle.wq_words.proofs.Seen.{count_own, own-append, grows_same, closed_count, ended_same, own_between, own_more, none_of, begun_same, count_same}
-pub use Rattle.wq_words.proofs.Seen.{own_none, running_same}
+pub use Rattle.wq_words.proofs.Seen.{running_same}
 pub use Rattle.wq_live.specs.Counts.{sender_counts, owner_counts}
 pub use Rattle.wq_live.specs.Known.{Known, Sees, QueueId, new_owner, new_sender, new_senders}
 pub use Rattle.wq_live.specs.declared.sender.Sender.{Sender}
@@ -35,7 +35,7 @@ pub use Rattle.wq_ledger.specs.Book.{LedgerState, BookState, IsLedgerOf}
 pub use Rattle.wq_ledger.specs.declared.balance.Unbalanced.{Unbalanced}
 pub use Rattle.wq_ledger.proofs.Pushes.{is_queued_below, below_more, below_all, below_none}
 pub use Rattle.wq_worker.specs.Follow.{Follows}
-pub use Rattle.wq_worker.specs.Seats.{taking, taking_of}
+pub use Rattle.wq_worker.specs.Seats.{taking}
 pub use Rattle.wq_worker.specs.State.{WorkerState, items_among, Moves, IsSameWorker}
 pub use Rattle.wq_worker.proofs.Rows.{worker_still, worker_on, moves_same}
 pub use Rattle.wq_worker.proofs.State.{items_among-item, items_among-other, quiet_taking}

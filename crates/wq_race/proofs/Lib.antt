@@ -1,7 +1,6 @@
 pub mod Common
 pub mod Made
 pub mod Queueing
-mod Still
 pub mod Serving
 pub mod Meeting
 pub mod Destroying
@@ -12,3 +11,4 @@ pub mod Pushed
 pub mod Whole
 pub mod Balanced
 pub mod Ended
+pub mod Counted

@@ -14,7 +14,7 @@ use Rattle.wq_words.proofs.Seen.{filter-filter}
 use Rattle.wq_worker.proofs.Owned.{owner_of_both, quiet_stays}
 use Rattle.wq_words.proofs.Running.{runs_from_running as runs_some}
 use Rattle.wq_worker.specs.Destroy.{Destroys, LeavesUnfinished}
-use Rattle.wq_race.proofs.Still.{Still, still_on, still_taking, still_one, still_begun}
+use Rattle.wq_worker.proofs.Still.{Still, still_on, still_taking, still_one, still_begun}
 use Rattle.wq_words.proofs.Lists.{none_cons}
 
 own_of_ours : (s : ℕ) (es : List Event) → own s (filter (is_ours s) es) ≡ own s es

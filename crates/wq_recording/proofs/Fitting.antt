@@ -15,7 +15,7 @@ use Rattle.wq_recording.specs.History.{history_grammar}
 use Rattle.wq_recording.specs.HistoryReport.{history_rules}
 use Rattle.wq_recording.specs.Trace.{trace_grammar}
 use Rattle.wq_recording.specs.TraceReport.{trace_rules}
-use Rattle.wq_recording.proofs.OneCause.{one_event_cause, one_mark_cause, shown_next}
+use Rattle.wq_check.proofs.OneCause.{one_event_cause, one_mark_cause, shown_next}
 use Rattle.wq_recording.proofs.Stages.{stays, ok_behind_need}
 use Rattle.wq_recording.proofs.Verdicts.{AreFit}
 

@@ -11,10 +11,7 @@ pub mod ReadThrough
 pub mod Saying
 pub mod LeftNumbers
 pub mod FirstLine
-pub mod Places
-pub mod Leading
 pub mod Verdicts
-pub mod OneCause
 pub mod Fitting
 pub mod Deciding
 pub mod WrittenWords

@@ -3,8 +3,8 @@ use Rattle.wq_recording.proofs.Common.{◌≡◌, ◌≢◌, ℕ, ◌+◌, List,
 use Rattle.wq_recording.proofs.Common.{inl, inr, flat_map, option_to_list, append_assoc, append-nil, Layout, Cause, FaultKind, ScriptError, Stage, Lines}
 use Rattle.wq_recording.proofs.Common.{LinesLead, layout_at, Stop, Rules, Verdict, IsLineAt, IsLegalText, StopsWith, IsRefusedText, HasVerdict}
 use Rattle.wq_recording.proofs.Common.{HasFaultAt, same_Some}
-use Rattle.wq_recording.proofs.Leading.{same_lead, LeadsThrough, through, stays_through}
-use Rattle.wq_recording.proofs.Places.{Places, places}
+use Rattle.wq_text.proofs.Leading.{same_lead, LeadsThrough, through, stays_through}
+use Rattle.wq_words.proofs.TwoPlaces.{Places, places}
 use Rattle.wq_text.specs.declared.header.Stage.TheVariants as stage
 use Rattle.wq_text.proofs.Outcomes.{whole_or_not, same_error}
 use Rattle.std.proofs.lemmas.Grind.{flat_map-append}

@@ -17,7 +17,7 @@ pub use Rattle.wq_words.specs.Armed.{armed_of, modified_of}
 pub use Rattle.wq_words.specs.Counting.{is_busy, is_refusal, is_queued_by, is_pending_by, is_closed_by, is_draining_by, is_chain, is_chain_busy}
 pub use Rattle.wq_words.specs.DelayTable.{DelayTable, on_table, is_too_far, Entry, items, due_part, table_without, table_at}
 pub use Rattle.wq_words.specs.History.{is_cut, IsClosed, IsShut, IsDraining}
-pub use Rattle.wq_words.specs.History.{pending, closed, shut, draining, first, is_push, fresh, accepted, begun, next, taken, is_close, Holds, ended, IsRunning}
+pub use Rattle.wq_words.specs.History.{pending, closed, shut, draining, first, is_push, fresh, accepted, begun, next, taken, Holds, ended, IsRunning}
 pub use Rattle.wq_words.specs.Legal.{IsLegal, HasSeat}
 pub use Rattle.wq_words.specs.Numbers.{barrier_number, stop_number}
 pub use Rattle.wq_words.specs.Rest.{wakes}
@@ -30,7 +30,7 @@ pub use Rattle.wq_words.specs.declared.event.Event.TheVariants.{Hold, Busy, Push
 pub use Rattle.wq_words.specs.declared.layout.Layout.{Layout}
 pub use Rattle.wq_words.proofs.Appended.{count_by-append, accepted-append, begun-append, accepted-count, fresh-more, ended-append}
 pub use Rattle.wq_words.proofs.Legal.{legal_next, legal_front, legal_nil}
-pub use Rattle.wq_words.proofs.Prefixes.{nothing_more, left_nil, right_nil, prefix_self, prefix_on, prefix_length}
+pub use Rattle.wq_words.proofs.Prefixes.{left_nil, right_nil, prefix_self, prefix_on, prefix_length}
 pub use Rattle.wq_words.proofs.Seen.{own-append, own_rest, closed_count, own_one, own_same, begun_same}
 pub use Rattle.wq_live.specs.Answers.{Answers, IsPushed, HasMetDrain}
 pub use Rattle.wq_live.specs.Batch.{TakesAll, batch, next_of}
@@ -56,7 +56,7 @@ pub use Rattle.wq_meaning.proofs.Sizes.{advance_few, close_few, executions_few, 
 pub use Rattle.wq_script.specs.Arming.{GoesWithTable, ArmsAs, CancelsAs, ModifiesAs, IsPosted, IsBackwards}
 pub use Rattle.wq_script.specs.Asking.{Asks, Reaches, HasExecuted, HasFollowLists, AsksOf, RunsAs}
 pub use Rattle.wq_script.specs.Counting.{Tallied, counted, counted_armed, counted_push, counted_modified, counted_posts}
-pub use Rattle.wq_script.specs.Engine.{Meets, EngineDrains, Does, size, HasStateWithin}
+pub use Rattle.wq_script.specs.Engine.{Meets, Does, size, HasStateWithin}
 pub use Rattle.wq_script.specs.Quiet.{Quiet, ListsFit, IsWorkerIdle, ExecutesRow, Executed, ExecutesOne, HasStepped}
 pub use Rattle.wq_script.specs.Seats.{Publishes, Seated, StaysSilent, Hears, AllHear, IsSameTable, worker_sender, worker_owner, IsWider, IsAt}
 pub use Rattle.wq_script.specs.declared.engine.Engine.{Engine}

@@ -14,7 +14,7 @@ use Rattle.std.proofs.lemmas.List.{take-append-drop}
 use Rattle.wq_words.proofs.Lasts.{before_last_push_yes, before_last_push_no}
 use Rattle.wq_words.proofs.Listed.{taken_open}
 use Rattle.wq_words.proofs.ShutOwn.{shut_same}
-use Rattle.wq_script.proofs.Alone.{all_ours}
+use Rattle.wq_words.proofs.Alone.{all_ours}
 use Rattle.wq_script.proofs.Queueings.{busy_events, push_events, not_pending, is_pending, last_own}
 use Rattle.wq_words.proofs.Closed.{shut_from_open, open_from_shut, shut_quiet}
 use Rattle.wq_meaning.proofs.Drains.{no_take}

@@ -1,5 +1,4 @@
 pub mod Common
-pub mod Alone
 pub mod Hearing
 pub mod Seated
 pub mod Queueings

@@ -4,7 +4,7 @@ use Rattle.wq_script.proofs.Common.{sym, ◌∙◌, subst, eq-eqb, filter, get_o
 use Rattle.wq_script.proofs.Common.{IsPrefix, QueueId, Layout, Event, IsLegal, owner_seat, own, others, Known, Sees, is_ours, WorkerState, Moves, Lists, Seats}
 use Rattle.wq_script.proofs.Common.{Hears, IsAt, IsWider, Seated, worker_sender, worker_owner, prefix_on, DelayState, with_item, prefix_self, seat_of, Publishes, ap}
 use Rattle.wq_words.proofs.Seen.{own_between}
-use Rattle.wq_script.proofs.Alone.{IsSeat, settle}
+use Rattle.wq_words.proofs.Alone.{IsSeat, settle}
 use mathlib.Core.Bool.{or-true}
 use Rattle.std.proofs.lemmas.Bool.{or_cases}
 

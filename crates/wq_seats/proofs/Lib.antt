@@ -1,2 +1,1 @@
 pub mod Summing
-pub mod Told

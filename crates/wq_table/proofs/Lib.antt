@@ -2,7 +2,6 @@ pub mod Common
 pub mod Changes
 pub mod Places
 pub mod Rule
-pub mod Operations
 pub mod Steps
 pub mod Present
 pub mod Views
@@ -22,3 +21,4 @@ pub mod SlotTold
 pub mod SlotMet
 pub mod SlotJoined
 pub mod SlotMetAll
+pub mod NewChairs

@@ -12,7 +12,7 @@ use Rattle.wq_words.specs.History.{IsClosed, IsShut, IsDraining, IsRunning}
 use Rattle.wq_core.specs.declared.step.Seat.TheVariants.{Sender}
 use Rattle.wq_core.specs.Words.{link_place, item_place, closed_word, draining_word, resting_word, TakesPushes, link_word}
 use Rattle.wq_core.specs.Machine.{HasSeenOpen, HasSeenCause}
-use Rattle.wq_table.proofs.Operations.{item_word-bit, loads, sets_bit, clears_bit, exchanges}
+use Rattle.wq_core.proofs.Operations.{item_word-bit, loads, sets_bit, clears_bit, exchanges}
 use Rattle.wq_table.specs.Plays.{item_at}
 use Rattle.wq_table.specs.Chair.{IsSender, HasSeen, HasLinked, IsOwner, HasWalked, HasNone, IsToTurn, IsToBegin}
 use Rattle.wq_words.proofs.Running.{runs_some}

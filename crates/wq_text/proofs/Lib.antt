@@ -9,3 +9,4 @@ pub mod Outcomes
 pub mod Versions
 pub mod Sound
 pub mod Turns
+pub mod Leading

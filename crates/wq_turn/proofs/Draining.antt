@@ -13,7 +13,7 @@ use Rattle.wq_turn.specs.Drained.{IsDrained}
 use Rattle.wq_turn.specs.Steps.{EndsJust}
 use Rattle.wq_turn.specs.Owed.{IsOwed}
 use Rattle.wq_turn.proofs.Moved.{steps_keep, works_keep}
-use Rattle.wq_turn.proofs.Refused.{owner_new}
+use Rattle.wq_worker.proofs.Refused.{owner_new}
 use Rattle.wq_worker.proofs.Draining.{owes_open}
 
 owes_kept : (o : Bool) (v w : List Event) → length (begun w) ≡ length (begun v) → length (ended w) ≡ length (ended v) → IsOwed o v → IsOwed o w

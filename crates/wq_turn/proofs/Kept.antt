@@ -1,6 +1,6 @@
 -- What a worker in hand keeps by each step: whether it owes an execution, and that its queue does not drain.
 use Rattle.wq_worker.specs.Step.{RunsBy}
-use Rattle.wq_worker.proofs.Phase.{SamePhase, phase_still, shut_still, closed_still}
+use Rattle.wq_calls.proofs.PhaseKept.{SamePhase, phase_still, shut_still, closed_still}
 use Rattle.wq_worker.proofs.Rows.{runs_by_phase}
 use Rattle.wq_worker.proofs.State.{quiet_taking}
 use Rattle.wq_turn.proofs.Common.{ℕ, Bool, true, false, List, [], ◌∷◌, Some, None, Option, MatchOption, sym, refl, subst, Event, Close, IsDraining}

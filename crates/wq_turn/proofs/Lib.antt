@@ -1,5 +1,4 @@
 pub mod Common
-pub mod Refused
 pub mod Moved
 pub mod Steps
 pub mod Settled

@@ -7,7 +7,7 @@ use Rattle.wq_turn.proofs.Common.{IsExecution, ended_by_answer, WorkerState, Mov
 use Rattle.wq_turn.proofs.Common.{taking, Adds, NothingWaits, Ended, Owed, Done, limited, owes, WorksOn, StepRow, still, ready, unready, run, rest, Finishes}
 use Rattle.wq_turn.proofs.Common.{rested, completed, IsDue, SettlesOne, RunsOne, MakesProgress}
 use Rattle.wq_turn.specs.declared.runner.Progress.{Progress}
-use Rattle.wq_turn.proofs.Refused.{refused_waits, none_left_complete}
+use Rattle.wq_worker.proofs.Refused.{refused_waits, none_left_complete}
 use Rattle.wq_turn.proofs.Steps.{steps_on, steps_ended, finishes_on}
 use Rattle.wq_worker.proofs.Rows.{ends_idle}
 

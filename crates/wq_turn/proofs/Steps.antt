@@ -8,7 +8,7 @@ use Rattle.wq_turn.proofs.Common.{Stop, Nothing, Owing, ended_by_answer, WorkerS
 use Rattle.wq_turn.proofs.Common.{taking, Adds, taking_of, owner_of_both, LeavesExecutions, OwnerAdds, Pauses, limited, owed_before, WorksOn, StepRow, still, ready}
 use Rattle.wq_turn.proofs.Common.{unready, run, rest, Finishes, rested, completed, worker_id}
 use Rattle.wq_turn.specs.Steps.{owes as owes_one, EndsWithin, EndsJust}
-use Rattle.wq_turn.proofs.Refused.{next_kept}
+use Rattle.wq_worker.proofs.Refused.{next_kept}
 use Rattle.wq_turn.proofs.Moved.{works_keep}
 
 -- no execution ends by these events

@@ -1,6 +1,6 @@
 -- What several proofs of this crate cite of std, of specs and of the crates below, passed on from one place.
 pub use Rattle.std.proofs.Common.{Bool, List, MatchOption, None, Option, Some, [], ap, append_assoc, arith, cond, false, if◌then◌else◌, inl, inr, length}
-pub use Rattle.std.proofs.Common.{length-append, refl, rules, slice_get, subst, sym, take, true, ℕ, ⊎_elim, ◌++◌, ◌+◌, ◌<◌, ◌==◌, ◌∙◌, ◌∷◌, ◌≡◌, ◌≤◌}
+pub use Rattle.std.proofs.Common.{refl, rules, slice_get, subst, sym, take, true, ℕ, ⊎_elim, ◌++◌, ◌<◌, ◌==◌, ◌∙◌, ◌∷◌, ◌≡◌, ◌≤◌}
 pub use Rattle.std.proofs.lemmas.Bool.{cases_lt}
 pub use Rattle.std.proofs.lemmas.List.{append-nil}
 pub use Rattle.wq_ledger.specs.Totals.{own_totals}
@@ -15,10 +15,10 @@ pub use Rattle.wq_words.proofs.Closed.{open_from_shut}
 pub use Rattle.wq_words.proofs.Order.{in_order}
 pub use Rattle.wq_words.proofs.Prefixes.{prefix_length}
 pub use Rattle.wq_words.proofs.Running.{rests_from_running as runs_none, runs_from_running as runs_some}
-pub use Rattle.wq_words.specs.History.{IsClosed, IsDraining, IsRunning, IsShut, accepted, begun, ended, running, shut}
+pub use Rattle.wq_words.specs.History.{IsClosed, IsDraining, IsRunning, IsShut, accepted, begun, running, shut}
 pub use Rattle.wq_words.specs.Legal.{HasRunOut, IsComplete, IsLegal}
 pub use Rattle.wq_words.specs.Numbers.{number_count}
-pub use Rattle.wq_words.specs.Seen.{Grows, own, owner_seat}
+pub use Rattle.wq_words.specs.Seen.{own, owner_seat}
 pub use Rattle.wq_words.specs.declared.event.Event.{Event}
 pub use Rattle.wq_words.specs.declared.event.Event.TheVariants.{Begin, Busy, Close, Drain, End, Hold, Push, Resume, Take}
 pub use Rattle.wq_words.specs.declared.layout.Layout.{Layout}

@@ -8,6 +8,4 @@ pub mod Settling
 pub mod Logged
 pub mod Begun
 pub mod Finishing
-pub mod ValueBooks
 pub mod ValueGoing
-pub mod ValueJoined

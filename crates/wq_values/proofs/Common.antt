@@ -1,6 +1,6 @@
 -- What several proofs of this crate cite of std, of specs and of the crates below, passed on from one place.
 pub use Rattle.std.proofs.Common.{Bool, IsTrue, List, None, Option, Some, [], ap, append_assoc, arith, length, length-append, map}
-pub use Rattle.std.proofs.Common.{not, refl, slice_get, subst, sym, true, ℕ, ◌++◌, ◌+◌, ◌<◌, ◌∙◌, ◌∷◌, ◌≡◌, ◌≢◌}
+pub use Rattle.std.proofs.Common.{not, refl, slice_get, subst, sym, ℕ, ◌++◌, ◌+◌, ◌<◌, ◌∙◌, ◌∷◌, ◌≡◌, ◌≢◌}
 pub use Rattle.atomic_table.specs.Seated.{TableId}
 pub use mathlib.Core.List.{IsPrefix}
 pub use Rattle.wq_core.specs.Machine.{Machine}
@@ -8,7 +8,7 @@ pub use Rattle.wq_core.specs.Sound.{IsSound}
 pub use Rattle.wq_core.specs.declared.step.Step.TheVariants.{Check}
 pub use Rattle.wq_table.proofs.Learns.{learns_meet, learns_more, learns_right, learns_step}
 pub use Rattle.wq_table.specs.Beside.{Learns}
-pub use Rattle.wq_calls.proofs.Chairs.{seeing}
+pub use Rattle.wq_table.proofs.NewChairs.{seeing}
 pub use Rattle.wq_table.specs.Plays.{all_see}
 pub use Rattle.wq_table.specs.SlotChairs.{ValueStanding, knowing, part_in, standing_of, value_senders}
 pub use Rattle.wq_table.specs.Slots.{plain_view}

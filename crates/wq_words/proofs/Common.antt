@@ -5,8 +5,7 @@ pub use Rattle.std.proofs.Common.{Option, slice_get, ◌⊎◌, ◌≢◌, eq-eq
 pub use Rattle.std.proofs.lemmas.Bool.{cases_lt, eqb-true, and_parts}
 pub use Rattle.std.proofs.lemmas.Bool.Decides.{nat_tests}
 pub use Rattle.std.proofs.lemmas.Iterator.{YieldsList-from_slice}
-pub use Rattle.std.proofs.lemmas.Iterator.Adapters.{option_map_id}
-pub use Rattle.std.proofs.lemmas.Iterator.Consumers.{nth_from_yields_List, YieldsList-from_filter_map}
+pub use Rattle.std.proofs.lemmas.Iterator.Consumers.{YieldsList-from_filter_map}
 pub use Rattle.std.proofs.lemmas.List.{length-reverse, append-nil, take_more, take-take, take_all, length-take, length_push, take-append-le}
 pub use Rattle.std.proofs.lemmas.List.{reverse-append, drop-append-le, drop_all, drop_at, take_at, get_or-set_other, get_or-set_same, get_or_default}
 pub use Rattle.std.proofs.lemmas.List.Elements.{filter_map-append, filter-append}
@@ -22,9 +21,9 @@ pub use Rattle.wq_words.specs.DelayTable.{DelayTable, is_too_far, table_with, ta
 pub use Rattle.wq_words.specs.Head.{head_word, busy_word}
 pub use Rattle.wq_words.specs.History.{accepted, accepted_by, begun, begun_by, ended, ended_by, fresh, is_push, is_cut, is_close, IsClosed, closed, is_drain}
 pub use Rattle.wq_words.specs.History.{is_resume, shuts, shut, IsShut, IsDraining, HasDrained, starts_hold, stops_hold, IsPending, Holds, sets_pending}
-pub use Rattle.wq_words.specs.History.{clears_pending, taken, IsRunning, running, pending, first, next}
+pub use Rattle.wq_words.specs.History.{clears_pending, taken, IsRunning, running, pending, first}
 pub use Rattle.wq_words.specs.Keeper.{Keeper, Home, Sender, Listed, Owner, keeper, taken_over, Keeps, keeper_after}
-pub use Rattle.wq_words.specs.Legal.{IsAllowed, IsLegal, IsComplete, HasRunOut, IsCause, MayFollow}
+pub use Rattle.wq_words.specs.Legal.{IsAllowed, IsLegal, HasRunOut, IsCause, MayFollow}
 pub use Rattle.wq_words.specs.Numbers.{number_count}
 pub use Rattle.wq_words.specs.Seen.{owner_seat, seat_of, own, others, is_ours, Grows}
 pub use Rattle.wq_words.specs.declared.event.Event.{Event}

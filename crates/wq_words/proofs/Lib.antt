@@ -28,3 +28,9 @@ pub mod Counted
 pub mod Counting
 pub mod Rest
 pub mod Valued
+pub mod Waits
+pub mod OwnAccepted
+pub mod Fresh
+pub mod Alone
+pub mod TwoPlaces
+pub mod AtPlaces

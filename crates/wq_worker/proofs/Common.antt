@@ -10,7 +10,7 @@ pub use Rattle.wq_ledger.specs.Totals.{own_totals}
 pub use Rattle.wq_calls.proofs.Phases.{is_phase_change}
 pub use Rattle.wq_live.specs.Answers.{IsContended}
 pub use Rattle.wq_live.specs.Batch.{batch, next_of}
-pub use Rattle.wq_live.specs.Known.{Known, Sees, new_senders}
+pub use Rattle.wq_live.specs.Known.{Known, Sees}
 pub use Rattle.wq_live.specs.Pairs.{KnownPair, pair_owner, pair_sender}
 pub use Rattle.wq_words.proofs.Appended.{count_by-append}
 pub use Rattle.wq_words.proofs.Closed.{IsShut_from_shut, open_from_shut, shut_from_IsShut}

@@ -4,7 +4,7 @@ use Rattle.wq_ledger.specs.Book.{BookState}
 use Rattle.wq_worker.specs.State.{IsSameWorker}
 use Rattle.wq_worker.specs.Rows.{RunsOutBy, Closes}
 use Rattle.wq_worker.specs.Destroy.{IsBookOf, DestroysBy, LeavesUnfinishedBy}
-use Rattle.wq_worker.proofs.Phase.{closed_still}
+use Rattle.wq_calls.proofs.PhaseKept.{closed_still}
 use Rattle.wq_worker.proofs.Rows.{worker_on, closes_same, row_phase, ran_complete}
 
 module _ {W : Type 0} (may : W → ℕ → List ℕ → W → Type 0) (gives : W → W → Type 0) (limit left : ℕ) (a m b : WorkerState W) (closed : Closes a m)

@@ -11,7 +11,7 @@ use Rattle.wq_words.proofs.Legal.{legal_front, legal_next}
 use Rattle.wq_words.proofs.Prefixes.{prefix_whole}
 use Rattle.wq_worker.specs.Seats.{at_take, at_all}
 use Rattle.wq_worker.proofs.Owned.{LeavesExecutions, owner_of_both, quiet_stays}
-use Rattle.wq_worker.proofs.Phase.{phase_grown, open_still, shut_still}
+use Rattle.wq_calls.proofs.PhaseKept.{phase_grown, open_still, shut_still}
 use Rattle.wq_worker.proofs.Rows.{runs_by_phase}
 use Rattle.wq_worker.proofs.Shut.{batch-shut}
 use Rattle.wq_worker.proofs.State.{quiet_taking}

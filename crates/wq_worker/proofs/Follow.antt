@@ -11,9 +11,9 @@ use Rattle.wq_worker.specs.Pair.{settled, Attempts}
 use Rattle.wq_worker.proofs.Owned.{LeavesExecutions, quiet_none, quiet_append, Stays, quiet_stays, owner_of_both}
 use Rattle.wq_words.proofs.Closed.{closed_shuts}
 use Rattle.wq_worker.proofs.Pair.{both_on, by_owner, by_sender}
-use Rattle.wq_worker.proofs.Phase.{phase_grown, unclosed_still}
+use Rattle.wq_calls.proofs.PhaseKept.{phase_grown, unclosed_still}
 use Rattle.wq_calls.proofs.Refused.{closed_by}
-use Rattle.wq_worker.proofs.Refusals.{met_none}
+use Rattle.wq_calls.proofs.Refusals.{met_none}
 
 quiet_as : (xs es : List Event) → es ≡ xs → LeavesExecutions xs → LeavesExecutions es
 quiet_as xs es is q = subst LeavesExecutions (sym is) q

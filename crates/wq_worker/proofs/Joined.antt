@@ -5,7 +5,7 @@ use Rattle.wq_worker.proofs.Common.{WorkerState}
 use Rattle.wq_calls.proofs.Seated.{made_nothing}
 use Rattle.wq_worker.specs.State.{IsMadeOf, IsNew}
 use Rattle.wq_worker.proofs.Owned.{owner_grows}
-use Rattle.wq_worker.proofs.Phase.{phase_grown, open_still}
+use Rattle.wq_calls.proofs.PhaseKept.{phase_grown, open_still}
 
 module _ (owner : Known) (p : KnownPair) (met : Sees [] 0 owner (pair_owner p)) where
   pub joined_grows : Grows owner_seat [] 0 owner.seen p.seen

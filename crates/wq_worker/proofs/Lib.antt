@@ -1,8 +1,5 @@
 pub mod Common
 pub mod Seats
-pub mod Counts
-pub mod Phase
-pub mod Refusals
 pub mod Owned
 pub mod Running
 pub mod Shut
@@ -13,9 +10,10 @@ pub mod State
 pub mod Step
 pub mod Draining
 pub mod Rows
-pub mod Others
 pub mod Joined
 pub mod Resting
 pub mod Works
 pub mod Destroy
 pub mod Silent
+pub mod Refused
+pub mod Still

@@ -5,7 +5,7 @@ use Rattle.wq_worker.proofs.Common.{is_ours, Adds, is_phase_change}
 use Rattle.wq_words.specs.History.{ended_by, is_close, is_drain}
 use Rattle.wq_words.proofs.Seen.{filter-filter, own-own, begun_same, ended_same, closed_count, count_own, count_same}
 use Rattle.wq_calls.proofs.Owned.{begun_on, ended_on, closes_on}
-use Rattle.wq_worker.proofs.Phase.{phase_change_own, SamePhase, drains_on, phase_grown}
+use Rattle.wq_calls.proofs.PhaseKept.{phase_change_own, SamePhase, drains_on, phase_grown}
 use Rattle.wq_words.proofs.ShutOwn.{drain_own}
 
 -- from v to w the owner's events among these were added

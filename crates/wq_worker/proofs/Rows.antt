@@ -9,7 +9,7 @@ use Rattle.wq_worker.specs.Rows.{Along, here, onward, GoesOn, RunsSomeBy, full, 
 use Rattle.wq_worker.proofs.Owned.{owner_grown, owner_of_both, quiet_stays}
 use Rattle.wq_worker.proofs.Follow.{quiet_follows, quiet_contended}
 use Rattle.wq_calls.proofs.Phases.{open_then}
-use Rattle.wq_worker.proofs.Phase.{SamePhase, phase_still, phase_on, open_still, unclosed_still, closed_still, shut_still}
+use Rattle.wq_calls.proofs.PhaseKept.{SamePhase, phase_still, phase_on, open_still, unclosed_still, closed_still, shut_still}
 use Rattle.wq_worker.proofs.State.{quiet_taking, phase_changes_taking}
 
 module _ {X : Type 0} (step : X → X → Type 0) where

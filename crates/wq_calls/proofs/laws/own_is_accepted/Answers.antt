@@ -1,7 +1,7 @@
 use Rattle.wq_words.proofs.Times.{times_from_Contains, Contains_from_times}
 use Rattle.wq_words.specs.History.{accepted}
 use Rattle.wq_words.specs.Seen.{own}
-use Rattle.wq_calls.proofs.OwnAccepted.{own_times}
+use Rattle.wq_words.proofs.OwnAccepted.{own_times}
 use Rattle.wq_calls.proofs.Common.{arith}
 use Rattle.wq_calls.proofs.laws.own_is_accepted.Goals as goal
 

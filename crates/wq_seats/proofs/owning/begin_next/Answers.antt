@@ -1,6 +1,6 @@
 use Rattle.std.proofs.Common.{not, sym, refl, ap, ◌∙◌}
 use Rattle.wq_words.proofs.Running.{runs_told, idle_told}
-use Rattle.wq_seats.proofs.Told.{waits_told, empty_told}
+use Rattle.wq_calls.proofs.NextTold.{waits_told, empty_told}
 use Rattle.wq_seats.proofs.owning.begin_next.Goals as goal
 
 pub returns-then-is_some : goal.returns-then-is_some

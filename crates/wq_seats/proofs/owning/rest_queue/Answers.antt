@@ -1,7 +1,7 @@
 use Rattle.std.proofs.Common.{sym, refl, ◌∙◌}
 use Rattle.wq_words.proofs.Closed.{open_from_closed}
 use Rattle.wq_words.proofs.Running.{runs_told, idle_told}
-use Rattle.wq_seats.proofs.Told.{waits_told, empty_told}
+use Rattle.wq_calls.proofs.NextTold.{waits_told, empty_told}
 use Rattle.wq_seats.proofs.owning.rest_queue.Goals as goal
 
 pub returns-then-is_some : goal.returns-then-is_some

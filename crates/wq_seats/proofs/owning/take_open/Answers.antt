@@ -1,5 +1,5 @@
 use Rattle.std.proofs.Common.{sym, refl, ◌∙◌}
-use Rattle.wq_seats.proofs.Told.{waits_told, empty_told}
+use Rattle.wq_calls.proofs.NextTold.{waits_told, empty_told}
 use Rattle.wq_seats.proofs.owning.take_open.Goals as goal
 
 pub returns-then-is_some : goal.returns-then-is_some

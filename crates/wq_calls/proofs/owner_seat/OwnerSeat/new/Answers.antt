@@ -1,5 +1,5 @@
 use Rattle.wq_calls.proofs.Common.{refl, sym, ap, ◌∙◌, subst, TableId, ValueStanding, standing_of, Owning, kept_batch, Open, None, OwnsSlots}
-use Rattle.wq_calls.proofs.Chairs.{owner_chair}
+use Rattle.wq_table.proofs.NewChairs.{owner_chair}
 use Rattle.wq_calls.proofs.Built.{executes_new}
 use Rattle.wq_calls.proofs.owner_seat.OwnerSeat.new.Goals as goal
 

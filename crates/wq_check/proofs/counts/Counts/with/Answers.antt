@@ -4,14 +4,15 @@ use Rattle.wq_words.specs.Counting.{capped, is_chain, is_busy, is_refusal}
 use Rattle.std.specs.List.{count_by}
 use Rattle.wq_check.specs.Left.{most_waiting}
 use Rattle.wq_check.proofs.Lists.{largest_up_to-push}
-use Rattle.wq_check.proofs.Counted.{length_push, mapped_push}
+use Rattle.std.proofs.lemmas.List.{length_push}
+use Rattle.wq_words.proofs.Growing.{mapped_push}
 use Rattle.wq_check.proofs.counts.Counts.with.Goals as goal
 
 pub returns : goal.returns
 returns c = λ h is fits.
     let e = c.args.event in
     let events : c.counted.result ≡ capped (length (h ++ e ∷ [])) =
-    c.counted.ensures (length h) (ap (λ x. x.events) is) ∙ ap capped (length_push h e) in
+    c.counted.ensures (length h) (ap (λ x. x.events) is) ∙ ap capped (sym (length_push h e)) in
     let accepted' : c.counted-2.result ≡ capped (length (accepted (h ++ e ∷ []))) =
     c.counted-2.ensures (length (accepted h)) (ap (λ x. x.accepted) is)
     ∙ (ap (λ b. capped (length (accepted h) + cond b 1 0)) (c.is_some.ensures ∙ ap is_some c.accepted_number.ensures.accepted)

@@ -2,14 +2,15 @@ use Rattle.std.proofs.Common.{◌≡◌, ◌+◌, ◌++◌, ◌∷◌, [], cond,
 use Rattle.wq_check.specs.Trace.{queued_by, queued, started_by, started, returned_by, returned, unstarted, most_unstarted}
 use Rattle.wq_words.specs.Counting.{capped}
 use Rattle.wq_check.proofs.Lists.{largest_up_to-push}
-use Rattle.wq_check.proofs.Counted.{length_push, mapped_push}
+use Rattle.std.proofs.lemmas.List.{length_push}
+use Rattle.wq_words.proofs.Growing.{mapped_push}
 use Rattle.wq_check.proofs.mark_counts.MarkCounts.with.Goals as goal
 
 pub returns : goal.returns
 returns c = λ t is fits.
     let m = c.args.mark in
     let marks : c.counted.result ≡ capped (length (t ++ m ∷ [])) =
-    c.counted.ensures (length t) (ap (λ x. x.marks) is) ∙ ap capped (length_push t m) in
+    c.counted.ensures (length t) (ap (λ x. x.marks) is) ∙ ap capped (sym (length_push t m)) in
     let queued' : c.counted-2.result ≡ capped (length (queued (t ++ m ∷ []))) =
     c.counted-2.ensures (length (queued t)) (ap (λ x. x.queued) is)
     ∙ (ap (λ b. capped (length (queued t) + cond b 1 0)) c.is_queue.ensures ∙ ap capped (mapped_push queued_by t m)) in

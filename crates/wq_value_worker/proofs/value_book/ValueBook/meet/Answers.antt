@@ -3,7 +3,7 @@ use Rattle.wq_values.specs.OwnBrought.{own_brought}
 use Rattle.wq_value_worker.specs.ValueBook.{ValueBookState}
 use Rattle.wq_ledger.proofs.Common.{ℕ, [], sym, ap, ◌∙◌, subst, Grows, owner_seat, IsLedgerOf}
 use Rattle.wq_ledger.proofs.Meeting.{parts_still, made_still, made_now}
-use Rattle.wq_value_worker.proofs.ValueBooks.{brought_still}
+use Rattle.wq_calls.proofs.ValueBooks.{brought_still}
 use Rattle.wq_value_worker.proofs.value_book.ValueBook.meet.Goals as goal
 
 pub invariant_of-self : goal.invariant_of-self

@@ -7,7 +7,7 @@ use Rattle.std.specs.Prelude.{All}
 use Rattle.wq_values.specs.KnownWith.{KnownWith, knowing_nothing}
 use Rattle.wq_calls.proofs.Seated.{all_front, all_last, numbered_front}
 use Rattle.wq_worker.proofs.Joined.{made_new, made_open}
-use Rattle.wq_value_worker.proofs.ValueJoined.{values_less}
+use Rattle.wq_calls.proofs.ValueJoined.{values_less}
 use Rattle.wq_value_worker.proofs.value_worker.ValueWorker.build.Goals as goal
 
 pub new-requires : goal.new-requires

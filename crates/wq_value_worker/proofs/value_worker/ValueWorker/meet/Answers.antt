@@ -2,7 +2,7 @@ use Rattle.wq_value_worker.proofs.Common.{[], ap, refl, ◌∙◌, subst, IsShut
 use Rattle.wq_value_worker.proofs.Common.{ValueWorkerState, owner_in}
 use Rattle.wq_worker.specs.Resting.{HasNoneLeft}
 use Rattle.wq_value_worker.proofs.ValueState.{value_state_of, value_fit_owner, value_moves_owner}
-use Rattle.wq_worker.proofs.Phase.{open_still, unclosed_still, phase_grown}
+use Rattle.wq_calls.proofs.PhaseKept.{open_still, unclosed_still, phase_grown}
 use Rattle.wq_calls.proofs.Owned.{idle_still}
 use Rattle.wq_worker.proofs.Resting.{none_left_still}
 use Rattle.wq_value_worker.proofs.value_worker.ValueWorker.meet.Goals as goal

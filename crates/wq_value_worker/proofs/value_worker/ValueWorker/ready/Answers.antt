@@ -9,7 +9,7 @@ use Rattle.wq_worker.proofs.State.{quiet_taking}
 use Rattle.wq_worker.proofs.Step.{moves_by}
 use Rattle.wq_worker.proofs.Resting.{ready_told}
 use Rattle.wq_value_worker.proofs.ValueState.{value_state_of, keeps_still, keeps_or, value_fit_both}
-use Rattle.wq_worker.proofs.Phase.{open_still, unclosed_still}
+use Rattle.wq_calls.proofs.PhaseKept.{open_still, unclosed_still}
 use Rattle.wq_value_worker.proofs.value_worker.ValueWorker.ready.Goals as goal
 
 pub returns-then-is_some : goal.returns-then-is_some

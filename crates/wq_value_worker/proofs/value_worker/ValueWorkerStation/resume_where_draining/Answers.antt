@@ -3,7 +3,7 @@ use Rattle.wq_worker.specs.Works.{a_resume}
 use Rattle.wq_value_worker.specs.Deals.{DealsInStep, keeps}
 use Rattle.wq_value_worker.proofs.Deals.{deals_still}
 use Rattle.wq_worker.proofs.Draining.{none_left, next_from_empty}
-use Rattle.wq_worker.proofs.Phase.{closed_else}
+use Rattle.wq_calls.proofs.PhaseKept.{closed_else}
 use Rattle.wq_value_worker.proofs.ValueState.{value_state_of, value_fit_owner, value_moves_owner}
 use Rattle.wq_value_worker.proofs.value_worker.ValueWorkerStation.resume_where_draining.Goals as goal
 

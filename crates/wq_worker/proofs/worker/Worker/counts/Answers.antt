@@ -1,5 +1,5 @@
 use Rattle.wq_worker.proofs.Common.{◌≡◌, subst, own_totals, WorkerState}
-use Rattle.wq_worker.proofs.Counts.{own_counted}
+use Rattle.wq_ledger.proofs.Counts.{own_counted}
 use Rattle.wq_worker.proofs.worker.Worker.counts.Goals as goal
 
 pub returns : goal.returns

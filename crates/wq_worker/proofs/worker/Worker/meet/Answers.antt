@@ -3,7 +3,7 @@ use Rattle.wq_worker.specs.Resting.{HasNoneLeft}
 use Rattle.wq_worker.proofs.State.{fit_both}
 use Rattle.wq_worker.proofs.Step.{state_of, moves_by}
 use Rattle.wq_worker.proofs.Pair.{by_owner}
-use Rattle.wq_worker.proofs.Phase.{open_still, unclosed_still, phase_grown}
+use Rattle.wq_calls.proofs.PhaseKept.{open_still, unclosed_still, phase_grown}
 use Rattle.wq_calls.proofs.Owned.{idle_still}
 use Rattle.wq_worker.proofs.Resting.{none_left_still}
 use Rattle.wq_worker.proofs.worker.Worker.meet.Goals as goal

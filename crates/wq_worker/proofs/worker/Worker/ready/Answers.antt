@@ -6,7 +6,7 @@ use Rattle.wq_worker.proofs.Rows.{worker_still, moves_same}
 use Rattle.wq_worker.proofs.State.{fit_both, quiet_taking}
 use Rattle.wq_worker.proofs.Step.{state_of, moves_by}
 use Rattle.wq_worker.proofs.Resting.{ready_told}
-use Rattle.wq_worker.proofs.Phase.{open_still, unclosed_still}
+use Rattle.wq_calls.proofs.PhaseKept.{open_still, unclosed_still}
 use Rattle.wq_worker.proofs.worker.Worker.ready.Goals as goal
 
 pub invariant_of-self : goal.invariant_of-self

@@ -4,7 +4,7 @@ use Rattle.wq_worker.specs.Step.{stays}
 use Rattle.wq_worker.specs.Works.{a_resume, WorksInStep, keeps}
 use Rattle.wq_worker.proofs.Draining.{none_left, next_from_empty}
 use Rattle.wq_worker.proofs.Pair.{by_owner}
-use Rattle.wq_worker.proofs.Phase.{closed_else}
+use Rattle.wq_calls.proofs.PhaseKept.{closed_else}
 use Rattle.wq_worker.proofs.State.{fit_both}
 use Rattle.wq_worker.proofs.Step.{state_of, moves_by}
 use Rattle.wq_worker.proofs.Works.{works_still}

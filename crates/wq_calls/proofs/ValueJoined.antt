@@ -1,10 +1,9 @@
 -- The senders of a new queue whose items bring values, without the last.
-use Rattle.wq_value_worker.proofs.Common.{◌≡◌, ℕ, ◌+◌, List, [], ◌∷◌, ◌++◌, length, sym, ap, ◌∙◌, length-append, Layout, new_senders}
+use Rattle.wq_calls.proofs.Common.{◌≡◌, ℕ, ◌+◌, List, [], ◌∷◌, ◌++◌, length, sym, ap, ◌∙◌, length-append, Layout, new_senders, KnownWith, knowing_nothing}
+use Rattle.wq_calls.specs.Known.{QueueId, new_sender}
 use Rattle.std.proofs.Common.{map}
 use Rattle.std.proofs.lemmas.List.{length-map}
 use Rattle.std.proofs.lemmas.List.{same_from_push}
-use Rattle.wq_values.specs.Known.{QueueId, new_sender}
-use Rattle.wq_values.specs.KnownWith.{KnownWith, knowing_nothing}
 use Rattle.wq_calls.proofs.Built.{values-more}
 use Rattle.wq_calls.proofs.Seated.{length-new_senders}
 

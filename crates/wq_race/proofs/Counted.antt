@@ -1,6 +1,6 @@
 -- Counts of histories.
-use Rattle.wq_pool_plan.proofs.Common.{◌≡◌, ℕ, ◌+◌, ◌*◌, ◌≤◌, Bool, List, [], ◌∷◌, length, ap, arith, length-append, count_by, IsPrefix, Event}
-use Rattle.wq_pool_plan.proofs.Common.{capped, SendsAll, SendsOne, pushed, busy, refused, count_by-append}
+use Rattle.wq_race.proofs.Common.{◌≡◌, ℕ, ◌+◌, ◌*◌, ◌≤◌, Bool, List, [], ◌∷◌, length, ap, arith, length-append, count_by, IsPrefix, Event, capped, SendsAll}
+use Rattle.wq_race.proofs.Common.{SendsOne, pushed, busy, refused, count_by-append}
 
 -- the queueing of a number adds at most two events
 sends_few : (s k : ℕ) (es : List Event) → SendsOne s k es → length es ≤ 2

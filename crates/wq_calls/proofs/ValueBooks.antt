@@ -1,11 +1,12 @@
 -- What a book has of what was brought, as more is seen.
-use Rattle.wq_value_worker.proofs.Common.{◌≡◌, ℕ, List, [], length, Option, refl, sym, ap, ◌∙◌, arith, Event, accepted, Grows, own}
+use Rattle.wq_calls.proofs.Common.{◌≡◌, ℕ, List, [], length, Option, refl, sym, ap, ◌∙◌, arith, Event, accepted, own}
+use Rattle.wq_calls.specs.Laws.{IsStillEnd}
+use Rattle.wq_calls.specs.OwnBrought.{own_brought}
+use Rattle.wq_words.specs.Seen.{Grows}
 use mathlib.Core.List.{IsPrefix}
 use Rattle.wq_words.proofs.Appended.{accepted-append}
 use Rattle.wq_words.proofs.Prefixes.{nothing_more}
 use Rattle.wq_words.proofs.Seen.{own-append}
-use Rattle.wq_values.specs.Laws.{IsStillEnd}
-use Rattle.wq_values.specs.OwnBrought.{own_brought}
 use Rattle.wq_calls.proofs.OwnBrought.{own_still}
 
 -- where nothing more was accepted of a seat, its queueings brought what they had brought

@@ -1,8 +1,12 @@
 -- Events by which a worker sends nothing, chains nothing and asks for nothing.
 use Rattle.std.proofs.Common.{Option, Some, None}
-use Rattle.wq_race.proofs.Common.{◌≡◌, ◌≢◌, ℕ, ◌+◌, Bool, true, false, List, [], ◌∷◌, ◌++◌, refl, ◌∙◌, arith, count_by, Event, Take, Begin, is_close, is_drain}
-use Rattle.wq_race.proofs.Common.{shut}
-use Rattle.wq_race.proofs.Common.{owner_seat, own, own-append, own_none, is_chain, is_chain_busy, taking, taking_of, count_by-append, seat_of, sym, subst}
+use Rattle.wq_worker.proofs.Common.{◌≡◌, ℕ, ◌+◌, Bool, true, false, List, [], ◌∷◌, ◌++◌, refl, ◌∙◌, arith, count_by, Event, Take, Begin, shut, owner_seat}
+use Rattle.wq_worker.proofs.Common.{own, taking, count_by-append, seat_of, sym, subst}
+use Rattle.std.proofs.Common.{◌≢◌}
+use Rattle.wq_words.specs.History.{is_close, is_drain}
+use Rattle.wq_words.proofs.Seen.{own-append, own_none}
+use Rattle.wq_words.specs.Counting.{is_chain, is_chain_busy}
+use Rattle.wq_worker.specs.Seats.{taking_of}
 use Rattle.wq_live.specs.Batch.{next_of}
 
 -- the sender s made none of these events, and the owner chained nothing by them, began no drain, and closed so often

@@ -1,6 +1,7 @@
 -- What holds at the places of lists.
-use Rattle.wq_pool_plan.proofs.Common.{◌≡◌, ℕ, ◌+◌, ◌<◌, ◌≤◌, List, [], ◌∷◌, ◌++◌, length, take, get_or, inl, inr, sym, ap, ◌∙◌, subst, arith, length-append}
-use Rattle.wq_pool_plan.proofs.Common.{cases_lt, get_or_append_left, get_or_push, take_more}
+use Rattle.wq_words.proofs.Common.{◌≡◌, ℕ, ◌+◌, ◌<◌, ◌≤◌, List, [], ◌∷◌, ◌++◌, length, take, get_or, inl, inr, sym, ap, ◌∙◌, subst, arith, length-append}
+use Rattle.wq_words.proofs.Common.{cases_lt, take_more}
+use Rattle.std.proofs.lemmas.List.{get_or_append_left, get_or_push}
 use Rattle.std.proofs.lemmas.List.{same_from_push}
 
 -- what holds of the elements of two lists at each place holds where one comes behind each

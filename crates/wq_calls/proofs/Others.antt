@@ -1,6 +1,6 @@
 -- What the owner knows of its next number stays while others alone add events.
-use Rattle.wq_worker.proofs.Common.{◌≡◌, ℕ, ◌<◌, ◌==◌, false, List, [], ◌++◌, slice_get, ap, ◌∙◌, subst, arith, Layout, Event, IsLegal, owner_seat, own}
-use Rattle.wq_worker.proofs.Common.{next_of}
+use Rattle.wq_calls.proofs.Common.{◌≡◌, ℕ, ◌<◌, false, List, [], ◌++◌, ap, ◌∙◌, subst, arith, Layout, Event, IsLegal, owner_seat, own, next_of}
+use Rattle.std.proofs.Common.{◌==◌, slice_get}
 use Rattle.std.proofs.lemmas.Bool.Decides.{nat_tests}
 use Rattle.wq_calls.proofs.OwnerStays.{batch_still}
 

@@ -3,9 +3,14 @@ use Rattle.wq_words.specs.Keeper.{keeper}
 use Rattle.wq_words.proofs.Legal.{legal_front}
 use Rattle.wq_words.proofs.Keepers.{held_once, kept}
 use Rattle.wq_words.specs.Seen.{seat_of, own}
-use Rattle.wq_delay.proofs.Common.{◌≡◌, ℕ, ◌+◌, ◌<◌, ◌≤◌, Bool, true, false, cond, not, ◌&&◌, ◌||◌, ◌↔◌, List, [], ◌∷◌, ◌++◌, length, IsTrue, ◌==◌, count_by}
-use Rattle.wq_delay.proofs.Common.{filter, sym, refl, ap, ◌∙◌, subst, arith, eqb-true, nat_tests, length-filter, sum_by-append, Event, Back, Push, Hold, Layout}
-use Rattle.wq_delay.proofs.Common.{Holds, starts_hold, stops_hold, Entry, on_table, IsLegal, Known, Sees}
+use Rattle.wq_calls.proofs.Common.{◌≡◌, ℕ, ◌<◌, Bool, true, false, not, List, [], ◌∷◌, ◌++◌, length, sym, refl, ap, ◌∙◌, subst, arith, Event, Back, Push}
+use Rattle.wq_calls.proofs.Common.{Hold, Layout, Holds, IsLegal, Known, Sees}
+use Rattle.std.proofs.Common.{◌+◌, ◌≤◌, cond, ◌&&◌, ◌||◌, ◌↔◌, IsTrue, ◌==◌, count_by, filter}
+use Rattle.std.proofs.lemmas.Bool.{eqb-true}
+use Rattle.std.proofs.lemmas.Bool.Decides.{nat_tests}
+use Rattle.std.proofs.lemmas.List.Sums.{length-filter, sum_by-append}
+use Rattle.wq_words.specs.History.{starts_hold, stops_hold}
+use Rattle.wq_words.specs.DelayTable.{Entry, on_table}
 use Rattle.std.proofs.lemmas.Bool.{and_parts}
 
 -- events that only the seat c makes are among its own

@@ -1,11 +1,13 @@
 -- An owner that does not drain its queue sees no queueing on it refused for a drain.
-use Rattle.wq_worker.proofs.Common.{◌≡◌, ℕ, ◌+◌, ◌-◌, ◌≤◌, cond, List, [], ◌++◌, length, take, refl, ap, ◌∙◌, subst, arith}
-use Rattle.wq_worker.proofs.Common.{count_by, Event, IsShut, owner_seat, own, Grows, is_phase_change}
+use Rattle.wq_calls.proofs.Common.{◌≡◌, ℕ, List, [], ◌++◌, length, refl, ap, ◌∙◌, subst, arith, Event, IsShut, owner_seat, own, HasMetDrain}
+use Rattle.std.proofs.Common.{◌+◌, ◌-◌, ◌≤◌, cond, take}
+use Rattle.std.specs.Prelude.{count_by}
+use Rattle.wq_words.specs.Seen.{Grows}
+use Rattle.wq_calls.proofs.Phases.{is_phase_change}
 use Rattle.std.proofs.Math.Seq.{take-append-add}
 use Rattle.std.proofs.lemmas.List.Sums.{sum_by-take-le}
 use Rattle.wq_words.proofs.Seen.{count_own}
-use Rattle.wq_live.specs.Answers.{HasMetDrain}
-use Rattle.wq_worker.proofs.Phase.{phase_change_own, open_still, phase_grown}
+use Rattle.wq_calls.proofs.PhaseKept.{phase_change_own, open_still, phase_grown}
 
 -- at no moment since it was open has a queue drained that its owner left alone
 pub met_none : (n : ℕ) (v w : List Event) → Grows owner_seat [] n v w → ¬ IsShut v → ¬ HasMetDrain v w

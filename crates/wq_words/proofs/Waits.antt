@@ -1,6 +1,10 @@
 -- Each number waits at most once, so that no more wait than there are.
-use Rattle.wq_check.proofs.Common.{◌≡◌, ℕ, ◌+◌, ◌<◌, ◌≤◌, List, length, take, drop, refl, sym, ap, ◌∙◌, arith, Layout, Event, number_count, accepted}
-use Rattle.wq_check.proofs.Common.{begun, IsLegal, keeper, in_order, queue_bit, kept, times, times-append, unbegun}
+use Rattle.wq_words.proofs.Common.{◌≡◌, ℕ, ◌+◌, ◌<◌, ◌≤◌, List, length, take, drop, refl, sym, ap, ◌∙◌, arith, Layout, Event, number_count, accepted, begun}
+use Rattle.wq_words.proofs.Common.{IsLegal, keeper}
+use Rattle.wq_words.proofs.Order.{in_order}
+use Rattle.wq_words.proofs.Keepers.{queue_bit, kept}
+use Rattle.wq_words.proofs.Times.{times, times-append}
+use Rattle.wq_words.specs.History.{unbegun}
 use Rattle.std.proofs.lemmas.List.{drop_at, take-append-drop}
 use Rattle.wq_words.proofs.Times.{length-distinct_below}
 use Rattle.wq_words.proofs.Accepted.{accepted_below, queue_once}

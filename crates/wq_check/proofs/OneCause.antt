@@ -1,5 +1,7 @@
 -- An event has one cause at most, and none where it goes on legally.
-use Rattle.wq_recording.proofs.Common.{◌≡◌, ℕ, ◌∷◌, ◌++◌, List, length, sym, ap, ◌∙◌, refl, arith, Layout, Cause, same_Some}
+use Rattle.wq_check.proofs.Common.{◌≡◌, ℕ, ◌∷◌, ◌++◌, List, length, sym, ap, ◌∙◌, refl, arith, Layout}
+use Rattle.wq_check.specs.declared.cause.Cause.{Cause}
+use Rattle.std.proofs.lemmas.Option.{same_Some}
 use Rattle.std.proofs.lemmas.Option.{slice_get_within}
 use Rattle.wq_words.specs.declared.event.Why.{Why}
 use Rattle.wq_words.specs.declared.event.Why.TheVariants as reason

@@ -13,13 +13,21 @@ use Rattle.wq_words.proofs.Rest.{wakes_quiet, wakes_push_work}
 use Rattle.wq_words.proofs.OtherSeats.{others_keep, surrounds, taken_still}
 use Rattle.wq_calls.proofs.Reading.{empty_from_next}
 use Rattle.wq_worker.proofs.Draining.{left_idle}
-use Rattle.wq_worker.proofs.Others.{next_still, some_fresh}
-use Rattle.wq_worker.proofs.Phase.{shut_still}
-use Rattle.wq_turn.proofs.Common.{◌≡◌, ℕ, ◌<◌, ◌≤◌, false, List, [], ◌∷◌, ◌++◌, length, take, ◌==◌, None, sym, refl, ap, ◌∙◌, subst, inl, inr, append_assoc}
-use Rattle.wq_turn.proofs.Common.{arith, length-append, length-drop, filter_map-append, filter-append, Event, Hold, Busy, Push, Back, Take, Layout, accepted}
-use Rattle.wq_turn.proofs.Common.{begun, IsClosed, IsShut, accepted_by, taken, fresh, first, IsLegal, IsComplete, closed_shuts, shut_from_open, batch, next_of}
-use Rattle.wq_turn.proofs.Common.{MayNotRest}
-use Rattle.wq_turn.proofs.Common.{HasNoneLeft, taking, Adds, NothingWaits, at_take, at_all, owner_of_both, filter-filter, owner_grows, quiet_stays, quiet_none}
+use Rattle.wq_calls.proofs.Others.{next_still, some_fresh}
+use Rattle.wq_calls.proofs.PhaseKept.{shut_still}
+use Rattle.wq_worker.proofs.Common.{◌≡◌, ℕ, ◌<◌, ◌≤◌, false, List, [], ◌∷◌, ◌++◌, length, take, ◌==◌, None, sym, refl, ap, ◌∙◌, subst, inl, inr, append_assoc}
+use Rattle.wq_worker.proofs.Common.{arith, length-append, filter_map-append, Event, Hold, Busy, Push, Take, Layout, accepted, begun, IsClosed, IsShut}
+use Rattle.wq_worker.proofs.Common.{IsLegal, IsComplete, batch, next_of, taking, Adds, NothingWaits}
+use Rattle.std.proofs.Common.{length-drop}
+use Rattle.std.proofs.lemmas.List.Elements.{filter-append}
+use Rattle.wq_words.specs.declared.event.Event.TheVariants.{Back}
+use Rattle.wq_words.specs.History.{accepted_by, taken, fresh, first}
+use Rattle.wq_words.proofs.Closed.{closed_shuts, shut_from_open}
+use Rattle.wq_live.specs.Rest.{MayNotRest}
+use Rattle.wq_worker.specs.Resting.{HasNoneLeft}
+use Rattle.wq_worker.specs.Seats.{at_take, at_all}
+use Rattle.wq_worker.proofs.Owned.{owner_of_both, owner_grows, quiet_stays, quiet_none}
+use Rattle.wq_words.proofs.Seen.{filter-filter}
 
 -- of what came new the owner's events are those of what the worker's two seats added
 pub owner_new : (s n : ℕ) (xs v w : List Event) (adds : Adds s xs n v w) → own owner_seat adds.new ≡ own owner_seat xs

@@ -1,6 +1,6 @@
 -- What lines lead to and ask for is one, and goes through each of them.
-use Rattle.wq_recording.proofs.Common.{◌≡◌, ℕ, List, [], ◌∷◌, ◌++◌, Option, Ok, refl, sym, ap, subst, ◌∙◌, append_assoc, option_to_list}
-use Rattle.wq_recording.proofs.Common.{Layout, Stage, Lines, LinesLead}
+use Rattle.wq_text.proofs.Common.{◌≡◌, ℕ, List, [], ◌∷◌, ◌++◌, Option, Ok, refl, sym, ap, subst, ◌∙◌, append_assoc, option_to_list, Layout, Stage, LinesLead}
+use Rattle.wq_text.specs.Line.{Lines}
 use Rattle.wq_text.specs.declared.header.Stage.TheVariants as stage
 use Rattle.wq_words.proofs.Cases.{same_ok}
 

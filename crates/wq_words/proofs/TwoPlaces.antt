@@ -1,5 +1,5 @@
 -- Two places of one list.
-use Rattle.wq_recording.proofs.Common.{◌≡◌, ◌⊎◌, List, [], ◌∷◌, ◌++◌, refl, sym, ap, ◌∙◌, inl, inr}
+use Rattle.wq_words.proofs.Common.{◌≡◌, ◌⊎◌, List, [], ◌∷◌, ◌++◌, refl, sym, ap, ◌∙◌, inl, inr}
 
 module _ {X : Type 0} where
   heads : {a b : X} {xs ys : List X} → a ∷ xs ≡ b ∷ ys → a ≡ b

@@ -1,6 +1,9 @@
 -- Whether a queue takes pushes changes by closes, drains and resumes alone, which are the owner's.
-use Rattle.wq_worker.proofs.Common.{◌≡◌, ℕ, ◌+◌, Bool, true, false, List, sym, refl, ◌∙◌, count_by, Event, Close, Drain, Resume, IsClosed, IsShut}
-use Rattle.wq_worker.proofs.Common.{IsDraining, shut, owner_seat, seat_of, Grows, shut_from_IsShut, IsShut_from_shut, is_phase_change}
+use Rattle.wq_calls.proofs.Common.{◌≡◌, ℕ, ◌+◌, Bool, true, false, List, sym, refl, ◌∙◌, count_by, Event, Close, Drain, IsClosed, IsShut, IsDraining}
+use Rattle.wq_calls.proofs.Common.{owner_seat, seat_of, Grows, shut_from_IsShut, IsShut_from_shut}
+use Rattle.wq_words.specs.declared.event.Event.TheVariants.{Resume}
+use Rattle.wq_words.specs.History.{shut}
+use Rattle.wq_calls.proofs.Phases.{is_phase_change}
 use Rattle.std.proofs.Common.{eqb}
 use Rattle.wq_words.specs.History.{is_drain, closed}
 use Rattle.wq_words.proofs.Closed.{closed_from_IsClosed, IsClosed_from_closed, open_from_closed}

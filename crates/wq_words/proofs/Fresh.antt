@@ -1,6 +1,8 @@
 -- What was pushed since the last Take, Drain or Resume stands on the list, until the queue is closed.
-use Rattle.wq_calls.proofs.Common.{◌≡◌, Bool, true, false, List, [], ◌∷◌, ◌++◌, length, sym, refl, ap, ◌∙◌, arith, Layout, Event, IsClosed, IsShut}
-use Rattle.wq_calls.proofs.Common.{IsDraining, IsLegal, listed, shut_from_IsShut, IsShut_from_shut, open_from_shut, IsClosed_from_closed}
+use Rattle.wq_words.proofs.Common.{◌≡◌, Bool, true, false, List, [], ◌∷◌, ◌++◌, length, sym, refl, ap, ◌∙◌, arith, Layout, Event, IsClosed, IsShut}
+use Rattle.wq_words.proofs.Common.{IsDraining, IsLegal}
+use Rattle.wq_words.specs.Listed.{listed}
+use Rattle.wq_words.proofs.Closed.{shut_from_IsShut, IsShut_from_shut, open_from_shut, IsClosed_from_closed}
 use Rattle.wq_words.specs.declared.event.Event.TheVariants as event
 use Rattle.wq_words.specs.History.{is_push, shut, fresh}
 use Rattle.wq_words.specs.Legal.{IsAllowed}

@@ -1,5 +1,6 @@
 -- What a worker's two seats have counted, summed.
-use Rattle.wq_worker.proofs.Common.{◌≡◌, ℕ, List, ap, ◌∙◌, Event, own_totals}
+use Rattle.wq_ledger.proofs.Common.{◌≡◌, ℕ, List, ap, ◌∙◌, Event}
+use Rattle.wq_ledger.specs.Totals.{own_totals}
 use Rattle.wq_calls.specs.declared.counts.SenderCounts.{SenderCounts}
 use Rattle.wq_calls.specs.declared.counts.OwnerCounts.{OwnerCounts}
 use Rattle.wq_live.specs.Counts.{sender_counts, owner_counts}

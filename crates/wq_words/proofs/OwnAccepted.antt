@@ -1,5 +1,6 @@
 -- What was accepted of one seat, among all that was accepted.
-use Rattle.wq_calls.proofs.Common.{◌≡◌, ℕ, ◌≤◌, ◌==◌, Bool, true, false, List, [], ◌∷◌, Option, Some, None, refl, arith, Event, seat_of, own, accepted, accepted_by}
+use Rattle.wq_words.proofs.Common.{◌≡◌, ℕ, ◌≤◌, ◌==◌, Bool, true, false, List, [], ◌∷◌, Option, Some, None, refl, arith, Event, seat_of, own, accepted}
+use Rattle.wq_words.proofs.Common.{accepted_by}
 use Rattle.wq_words.proofs.Times.{times, times-cons}
 
 -- a number stands no more often there

@@ -1,9 +1,11 @@
 -- Who alone made events.
-use Rattle.wq_script.proofs.Common.{◌≡◌, ℕ, ◌<◌, ◌≤◌, ◌⊎◌, Bool, true, false, cond, not, List, [], ◌∷◌, ◌++◌, length, inl, inr, refl, sym, ap, ◌∙◌, subst}
-use Rattle.wq_script.proofs.Common.{arith, append_assoc, eq-eqb, filter, AllByRecursion, append-nil, filter-append, IsPrefix, Layout, Event, Hold, Busy, Push}
-use Rattle.wq_script.proofs.Common.{Back, Take, Close, Drain, Resume, Begin, End, Chain, ChainBusy, Rest, IsLegal, HasSeat, legal_next, legal_front, seat_of}
-use Rattle.wq_script.proofs.Common.{owner_seat, own}
-use Rattle.wq_script.proofs.Common.{nothing_more, left_nil, right_nil, own-append, own_rest}
+use Rattle.wq_words.proofs.Common.{◌≡◌, ℕ, ◌<◌, ◌≤◌, ◌⊎◌, Bool, true, false, cond, not, List, [], ◌∷◌, ◌++◌, length, inl, inr, refl, sym, ap, ◌∙◌, subst}
+use Rattle.wq_words.proofs.Common.{arith, append_assoc, eq-eqb, filter, AllByRecursion, append-nil, filter-append, IsPrefix, Layout, Event, Hold, Busy, Push}
+use Rattle.wq_words.proofs.Common.{Back, Take, Close, Drain, Resume, Begin, End, Chain, ChainBusy, Rest, IsLegal, seat_of, owner_seat, own}
+use Rattle.wq_words.specs.Legal.{HasSeat}
+use Rattle.wq_words.proofs.Legal.{legal_next, legal_front}
+use Rattle.wq_words.proofs.Prefixes.{nothing_more, left_nil, right_nil}
+use Rattle.wq_words.proofs.Seen.{own-append, own_rest}
 
 -- a seat's number: a sender's, or the owner's
 abbrev pub IsSeat : Layout → ℕ → Type 0

@@ -1,6 +1,7 @@
 -- What the table's operations make of a word.
-use Rattle.wq_table.proofs.Common.{◌≡◌, ◌≢◌, ℕ, ◌<◌, Bool, true, false, ◌==◌, if◌then◌else◌, List, get_or, set, sym, ap, ◌∙◌, arith, eqb-false}
-use Rattle.wq_table.proofs.Common.{eqb-true, either, number_count, Machine, item_word, IsSound}
+use Rattle.wq_core.proofs.Common.{◌≡◌, ◌≢◌, ℕ, ◌<◌, Bool, true, false, ◌==◌, if◌then◌else◌, List, get_or, set, sym, ap, ◌∙◌, arith, eqb-false, eqb-true}
+use Rattle.wq_core.proofs.Common.{number_count, Machine, item_word, IsSound}
+use prog.Atomic.{either}
 use Rattle.std.specs.Prelude.{bit_or, bit_and}
 use lib.Seq.{set-get_or}
 
