@@ -57,8 +57,8 @@ recordings: build
 
 # Each worked row of a script, a schedule, a plan or a recording gives what stands beside it, and so does each command line; each read,
 # write, allocation and thread of the program fails in turn, with a C compiler; random scripts of a delay table give what a sorted list
-# does, random scripts, schedules and recordings what models of their tables and definitions say, as the worked rows do; what
-# docs/RECORDING.md has one write records a right queue; the converter of kernel traces reads each spelling.
+# does, random scripts, schedules and recordings what models of their tables and definitions say, as the worked rows do; random plans
+# lose no item and end; what docs/RECORDING.md has one write records a right queue; the converter of kernel traces reads each spelling.
 rows: build
 	checks/rows.py $(PROGRAM)
 	checks/model_rows.py
@@ -67,6 +67,7 @@ rows: build
 	checks/random_delays.py $(PROGRAM)
 	checks/random_scripts.py $(PROGRAM)
 	checks/random_recordings.py $(PROGRAM)
+	checks/random_plans.py $(PROGRAM)
 	checks/recording_page.py $(PROGRAM)
 	checks/trace_lines.py $(PROGRAM)
 
