@@ -39,9 +39,9 @@ def look(process):
 
 
 def watch(took):
-    """Notes what each prover has taken until none has been there for a while."""
-    last = time.monotonic()
-    while time.monotonic() - last < QUIET:
+    """Waits for the first prover, and notes what each has taken until none has been there for a while."""
+    last = None
+    while last is None or time.monotonic() - last < QUIET:
         for process in Path("/proc").glob("[0-9]*"):
             try:
                 found = look(process)
