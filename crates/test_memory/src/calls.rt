@@ -302,7 +302,7 @@ fn run_main<T: Threads + Wait + Sync>(
 fn judge(alloc: Global, text: &str, faulty: Option<u64>) -> Said {
     let mut reader = text.as_bytes();
     match check(alloc, &mut reader) {
-        Ok(finding) => right(faulty.is_none() && finding.stop.is_none()),
+        Ok(finding) => right(faulty.is_none() && finding.violation.is_none()),
         Err(CheckError::Text(ParseError::Refused(fault))) => right(faulty == Some(fault.line)),
         Err(CheckError::Text(ParseError::Memory)) => Said::Memory,
         Err(CheckError::Read(error)) if error.kind() == ErrorKind::OutOfMemory => Said::Memory,

@@ -4,7 +4,7 @@ use std::alloc::Global;
 use std::io::{BufReader, Error, ErrorKind, Read, Result};
 use std::process::Abort;
 use wq_check::Cause;
-use wq_recording::{CheckError, Stop, check, record_history};
+use wq_recording::{CheckError, Violation, check, record_history};
 use wq_words::Event::{Begin, Close, End, Hold, Push, Take};
 use wq_words::{Event, Layout};
 
@@ -36,7 +36,7 @@ fn legal_history_reads_back(rt: HostRuntime) {
     let finding = check(rt.alloc(), &mut rest).expect(&rt, "a finding");
     expect_same(
         &rt,
-        (finding.stop, finding.is_legal, finding.left),
+        (finding.violation, finding.is_legal, finding.left),
         (None, true, 1),
     );
     expect_same(&rt, rest.len(), 0);
@@ -44,18 +44,18 @@ fn legal_history_reads_back(rt: HostRuntime) {
 
 /// Its line is the eighth, behind the four of the header, and two lines stand behind it.
 #[test]
-fn stop_of_a_history_is_named(rt: HostRuntime) {
+fn violation_of_a_history_is_named(rt: HostRuntime) {
     let text = written(&rt, rt.alloc(), TWICE);
     let mut rest = text.as_slice();
     let finding = check(rt.alloc(), &mut rest).expect(&rt, "a finding");
-    let stop = Stop {
+    let violation = Violation {
         line: 8,
         cause: Cause::Runs(1),
     };
     expect_same(
         &rt,
-        (finding.stop, finding.is_legal, finding.left),
-        (Some(stop), false, 1),
+        (finding.violation, finding.is_legal, finding.left),
+        (Some(violation), false, 1),
     );
     expect_same(&rt, rest, b"o end 1\no close\n".as_slice());
 }

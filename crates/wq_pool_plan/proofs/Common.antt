@@ -9,7 +9,7 @@ pub use Rattle.wq_turn.specs.WorkerId.{worker_id}
 pub use Rattle.wq_turn.specs.declared.worker_id.WorkerId.{WorkerId}
 pub use Rattle.wq_pool.specs.Finished.{AreFinished}
 pub use Rattle.wq_plan.specs.declared.plan.Plan.{Plan}
-pub use Rattle.wq_race.specs.declared.idle.Idle.{Idle}
+pub use Rattle.wq_race.specs.declared.run_counter.RunCounter.{RunCounter}
 pub use Rattle.wq_race.specs.declared.outcome.Outcome.{Outcome}
 pub use Rattle.wq_race.proofs.Balanced.{whole_counts, AreNumbered, one_ledger, last_ledger, no_fault}
 pub use Rattle.wq_race.proofs.Booking.{heard_on, heard_still, heard_one, told_on}

@@ -6,7 +6,7 @@ use Rattle.std.proofs.Common.{◌==◌, if◌then◌else◌}
 use Rattle.wq_pool_plan.proofs.Common.{◌≡◌, ℕ, zero, suc, ◌+◌, ◌*◌, ◌^◌, ◌<◌, ◌≤◌, Bool, true, false, List, ◌++◌, length, take, get_or, refl, sym, ap, ◌∙◌}
 use Rattle.wq_pool_plan.proofs.Common.{subst, arith, All, MatchBool, count_by, AllByRecursion, eqb-true, take_all, length-range_with_len, fold_more, Layout}
 use Rattle.wq_pool_plan.proofs.Common.{Event, is_queued_by, is_chain, IsLegal, IsComplete, own, own-append, own_between, capped, sender_counts, Known}
-use Rattle.wq_pool_plan.proofs.Common.{Unbalanced, BookState, IsLedgerOf, SendsAll, items_among, Idle, Outcome, Plan, HasHeard, AllKnown, IsTold, queued_sum}
+use Rattle.wq_pool_plan.proofs.Common.{Unbalanced, BookState, IsLedgerOf, SendsAll, items_among, RunCounter, Outcome, Plan, HasHeard, AllKnown, IsTold, queued_sum}
 use Rattle.wq_pool_plan.proofs.Common.{◌≢◌, [], ◌∷◌, map, inl, inr, cases_lt, own_room, LedgerState, ledger_of, AreWhole, HasOne, of_sender, of_worker}
 use Rattle.wq_pool_plan.proofs.Common.{whole_counts, AreNumbered, one_ledger, last_ledger, no_fault}
 use Rattle.wq_pool_plan.proofs.Common.{items_at, IsOfStop, all_front, all_ended, WorkerId, IsFinished, IsSent, is_push, accepted, ended, count_by-le-length}
@@ -27,9 +27,9 @@ of_counts x = (sender_counts x.number x.seen).queued
 
 -- A queue that was taken apart, whose book has met the plan's senders twice and the program's: before the first of these
 -- meetings, between both, and after all.
-pub record IsDone (plan : Plan) (id : WorkerId) (work : Idle) (before book last : BookState) (olds news : List Known) (program : Known) : Type 0 where
+pub record IsDone (plan : Plan) (id : WorkerId) (work : RunCounter) (before book last : BookState) (olds news : List Known) (program : Known) : Type 0 where
   pub sent : IsSent plan id olds program
-  pub finished : IsFinished {W = Idle} (λ w. w.ran.items) id (work, before)
+  pub finished : IsFinished {W = RunCounter} (λ w. w.ran.items) id (work, before)
   pub met : HasHeard before book
   pub known : AllKnown book.seen olds news
   pub legal : IsLegal book.layout book.seen
@@ -41,7 +41,7 @@ pub record IsDone (plan : Plan) (id : WorkerId) (work : Idle) (before book last 
   pub last_complete : IsComplete last.seen
   pub program_told : own program.number last.seen ≡ own program.number program.seen
 
-module _ (plan : Plan) (id : WorkerId) (work : Idle) (before book last : BookState) (olds news : List Known) (program : Known)
+module _ (plan : Plan) (id : WorkerId) (work : RunCounter) (before book last : BookState) (olds news : List Known) (program : Known)
     (o : IsDone plan id work before book last olds news program) where
   size : book.layout ≡ id.layout
   size = o.met.layout_is ∙ o.finished.layout_is

@@ -1,6 +1,6 @@
 -- Groups of senders, and the seats of one queue more.
 use Rattle.wq_pool_plan.proofs.Common.{◌≡◌, ℕ, ◌+◌, ◌<◌, List, [], ◌∷◌, ◌++◌, length, get_or, sym, ap, ◌∙◌, subst, arith, length-append, each_more, Known}
-use Rattle.wq_pool_plan.proofs.Common.{new_sender, get_or-new_senders, WorkerState, Idle, Plan, IsLayoutOf, IsNewTeam, Group, Teams, AreDealt, AreTeams}
+use Rattle.wq_pool_plan.proofs.Common.{new_sender, get_or-new_senders, WorkerState, RunCounter, Plan, IsLayoutOf, IsNewTeam, Group, Teams, AreDealt, AreTeams}
 use Rattle.wq_race.specs.declared.team.Team.{Team}
 use Rattle.wq_words.proofs.AtPlaces.{both_more}
 
@@ -43,22 +43,22 @@ teams_more plan old new team t n served programs dealt =
       programs_count = omega (arith, size, ap length programs, length-append ps (p ∷ []), t.programs_count);
       groups_count = dealt.count ∙ t.groups_count;
       lengths = λ s d lt. omega (arith, size, dealt.longer s d d (omega (arith, lt, t.groups_count)), t.lengths s d lt);
-      sized = λ q d lt. subst (λ (zs : List (WorkerState Idle)). IsLayoutOf plan.senders plan.own (get_or zs q d).layout) (sym served)
+      sized = λ q d lt. subst (λ (zs : List (WorkerState RunCounter)). IsLayoutOf plan.senders plan.own (get_or zs q d).layout) (sym served)
           (each_more (λ i z. IsLayoutOf plan.senders plan.own z.layout) ws w t.sized n.layout q d (omega (arith, lt, size, length-append ws (w ∷ []))));
-      numbers = λ q d lt. subst (λ (zs : List (WorkerState Idle)). (get_or zs q d).number ≡ plan.senders) (sym served)
+      numbers = λ q d lt. subst (λ (zs : List (WorkerState RunCounter)). (get_or zs q d).number ≡ plan.senders) (sym served)
           (each_more (λ i z. z.number ≡ plan.senders) ws w t.numbers n.number_is q d (omega (arith, lt, size, length-append ws (w ∷ []))));
       programs = λ q d x lt.
-          let P : ℕ → WorkerState Idle → Known → Type 0 = λ i a b. b ≡ new_sender a.queue a.layout (plan.senders + 1) in
+          let P : ℕ → WorkerState RunCounter → Known → Type 0 = λ i a b. b ≡ new_sender a.queue a.layout (plan.senders + 1) in
           let all = both_more P ws ps w p t.programs_count (λ i a b low. t.programs i a b low) n.program_is q d x (omega (
             arith,
             lt,
             size,
             length-append ws (w ∷ []),
           )) in
-          subst (λ (zs : List (WorkerState Idle)). P q (get_or zs q d) (get_or new.programs.items q x)) (sym served)
+          subst (λ (zs : List (WorkerState RunCounter)). P q (get_or zs q d) (get_or new.programs.items q x)) (sym served)
           (subst (λ (zs : List Known). P q (get_or (ws ++ w ∷ []) q d) (get_or zs q x)) (sym programs) all);
       senders = λ s q d g x lt few.
-          let P : ℕ → WorkerState Idle → Known → Type 0 = λ i a b. b ≡ new_sender a.queue a.layout s in
+          let P : ℕ → WorkerState RunCounter → Known → Type 0 = λ i a b. b ≡ new_sender a.queue a.layout s in
           let xs = (get_or old.groups.items s g).senders.items in
           let here : P k w (get_or team.senders.items s x) = ap (λ (zs : List Known). get_or zs s x) n.senders_are
           ∙ get_or-new_senders w.queue w.layout plan.senders s x lt in
@@ -68,6 +68,6 @@ teams_more plan old new team t n served programs dealt =
             size,
             length-append ws (w ∷ []),
           )) in
-          subst (λ (zs : List (WorkerState Idle)). P q (get_or zs q d) (get_or (get_or new.groups.items s g).senders.items q x)) (sym served)
+          subst (λ (zs : List (WorkerState RunCounter)). P q (get_or zs q d) (get_or (get_or new.groups.items s g).senders.items q x)) (sym served)
           (subst (λ (zs : List Known). P q (get_or (ws ++ w ∷ []) q d) (get_or zs q x)) (sym (dealt.each s g g x (omega (arith, lt, t.groups_count)))) all);
     }

@@ -1,6 +1,6 @@
 -- From new seats to what came of them.
 use Rattle.wq_pool_plan.proofs.Common.{◌≡◌, ℕ, ◌+◌, ◌*◌, ◌^◌, ◌<◌, ◌≤◌, List, [], ◌∷◌, length, map, get_or, sym, ap, ◌∙◌, subst, arith, AllByRecursion}
-use Rattle.wq_pool_plan.proofs.Common.{get_or-map, length-map, Event, Layout, own, Known, new_sender, WorkerState, Idle, Plan, HasQueuedStop}
+use Rattle.wq_pool_plan.proofs.Common.{get_or-map, length-map, Event, Layout, own, Known, new_sender, WorkerState, RunCounter, Plan, HasQueuedStop}
 use Rattle.wq_pool_plan.proofs.Common.{IsOfStop, IsQueuer, own_room, own-first, queuer, WorkerId, worker_id, Group, Teams, AreCallersOf, MayRun}
 use Rattle.wq_pool_plan.proofs.Common.{AllGroupsQueued, AllStopped}
 use Rattle.wq_pool_plan.proofs.Common.{IsSent, AllSent, AreTurned, AreTeams}
@@ -13,7 +13,7 @@ first_of (x ∷ xs) some = x
 
 module _ (plan : Plan) (teams : Teams) (t : AreTeams plan teams) (count : length teams.served.items ≡ plan.queues) where
   -- the worker of some queue
-  someone : WorkerState Idle
+  someone : WorkerState RunCounter
   someone = first_of teams.served.items (omega (arith, count, plan.in_limits.some_queue))
 
   pub may_run : {K : Type 0} (pool : PoolState K) (callers : Callers) → pool.workers ≡ map worker_id teams.served.items
@@ -43,7 +43,7 @@ module _ (plan : Plan) (teams : Teams) (t : AreTeams plan teams) (count : length
       let low : s < length teams.groups.items = omega (arith, lt, back.count) in
       (back.each s d d low).count ∙ (t.lengths s d (omega (arith, low, t.groups_count)) ∙ count)
 
-  stopped : (q : ℕ) (w : WorkerState Idle) (a b : Known) → a ≡ new_sender w.queue w.layout (plan.senders + 1) → HasQueuedStop a b
+  stopped : (q : ℕ) (w : WorkerState RunCounter) (a b : Known) → a ≡ new_sender w.queue w.layout (plan.senders + 1) → HasQueuedStop a b
       → (b.number ≡ plan.senders + 1) × (b.queue ≡ w.queue) × AllByRecursion (IsOfStop w.layout) (own (plan.senders + 1) b.seen)
       × (length (own (plan.senders + 1) b.seen) ≤ 2 * 2 ^ 32)
   stopped q w a b new queued =

@@ -1,37 +1,37 @@
 -- The outcomes of all queues, added up.
 use Rattle.std.proofs.lemmas.List.Sums.{sum_by-cons, sum_by-le}
 use Rattle.wq_pool_plan.proofs.Common.{◌≡◌, ℕ, zero, suc, ◌+◌, ◌-◌, ◌*◌, ◌^◌, ◌<◌, ◌≤◌, Bool, true, false, ◌&&◌, List, [], ◌∷◌, ◌++◌, length, take, get_or, inl}
-use Rattle.wq_pool_plan.proofs.Common.{inr, refl, sym, ap, ◌∙◌, subst, arith, MatchBool, AllByRecursion, capped, Known, BookState, items_among, Idle, Outcome}
+use Rattle.wq_pool_plan.proofs.Common.{inr, refl, sym, ap, ◌∙◌, subst, arith, MatchBool, AllByRecursion, capped, Known, BookState, items_among, RunCounter, Outcome}
 use Rattle.wq_pool_plan.proofs.Common.{Plan, WorkerId, IsFinished, AreFinished, Group, IsSent, AllSent, all_ended}
 use Rattle.wq_pool_plan.specs.Outcome.{QueueRun, IsQueueRun, accepted_items, ended_items, IsBalanced, IsFaulty, IsSomeFaulty, TellsRun, TellsRuns, AreBoth}
 use Rattle.wq_words.proofs.AtPlaces.{popped}
 
-pub finished_count : (log : Idle → List ℕ) (ids : List WorkerId) (xs : List (Idle × BookState)) → AreFinished log ids xs → length xs ≡ length ids
+pub finished_count : (log : RunCounter → List ℕ) (ids : List WorkerId) (xs : List (RunCounter × BookState)) → AreFinished log ids xs → length xs ≡ length ids
 finished_count log [] [] all = refl
 finished_count log (id ∷ ids) (x ∷ xs) all = ap suc (finished_count log ids xs all.1)
 finished_count log [] (x ∷ xs) all = absurd all
 finished_count log (id ∷ ids) [] all = absurd all
 
-pub finished_at : (log : Idle → List ℕ) (ids : List WorkerId) (xs : List (Idle × BookState)) → AreFinished log ids xs
-    → (q : ℕ) (i : WorkerId) (d : Idle × BookState) → q < length ids → IsFinished log (get_or ids q i) (get_or xs q d)
+pub finished_at : (log : RunCounter → List ℕ) (ids : List WorkerId) (xs : List (RunCounter × BookState)) → AreFinished log ids xs
+    → (q : ℕ) (i : WorkerId) (d : RunCounter × BookState) → q < length ids → IsFinished log (get_or ids q i) (get_or xs q d)
 finished_at log [] xs all q i d lt = absurd (omega (arith, lt))
 finished_at log (id ∷ ids) [] all q i d lt = absurd all
 finished_at log (id ∷ ids) (x ∷ xs) all zero i d lt = all.0
 finished_at log (id ∷ ids) (x ∷ xs) all (suc q) i d lt = finished_at log ids xs all.1 q i d (omega (arith, lt))
 
 -- The last of the first m queues, which was taken from the three lists, and the k queues before it.
-pub record IsLast (plan : Plan) (id : WorkerId) (finished fs : List (Idle × BookState)) (groups gs : List Group) (programs ps : List Known) (k : ℕ)
-    (x : Idle × BookState) (g : Group) (p : Known) : Type 0 where
+pub record IsLast (plan : Plan) (id : WorkerId) (finished fs : List (RunCounter × BookState)) (groups gs : List Group) (programs ps : List Known) (k : ℕ)
+    (x : RunCounter × BookState) (g : Group) (p : Known) : Type 0 where
   pub finished_are : fs ≡ take k finished
   pub groups_are : gs ≡ take k groups
   pub programs_are : ps ≡ take k programs
   pub finishes : IsFinished (λ w. w.ran.items) id x
   pub sent : IsSent plan id g.senders.items p
 
-pub is_last : (plan : Plan) (ids : List WorkerId) (finished : List (Idle × BookState)) (groups : List Group) (programs : List Known)
+pub is_last : (plan : Plan) (ids : List WorkerId) (finished : List (RunCounter × BookState)) (groups : List Group) (programs : List Known)
     → AreFinished (λ w. w.ran.items) ids finished → AllSent plan ids groups programs
     → (i : WorkerId) (k m : ℕ) → m ≡ k + 1 → m ≤ length finished
-    → (old_fs fs : List (Idle × BookState)) (x : Idle × BookState) → old_fs ≡ take m finished → old_fs ≡ fs ++ x ∷ []
+    → (old_fs fs : List (RunCounter × BookState)) (x : RunCounter × BookState) → old_fs ≡ take m finished → old_fs ≡ fs ++ x ∷ []
     → (old_gs gs : List Group) (g : Group) → old_gs ≡ take m groups → old_gs ≡ gs ++ g ∷ []
     → (old_ps ps : List Known) (p : Known) → old_ps ≡ take m programs → old_ps ≡ ps ++ p ∷ []
     → IsLast plan (get_or ids k i) finished fs groups gs programs ps k x g p
@@ -45,7 +45,7 @@ is_last plan ids finished groups programs f s i k m next within old_fs fs x fx f
       finished_are = a.0;
       groups_are = b.0;
       programs_are = c.0;
-      finishes = subst (IsFinished {W = Idle} (λ w. w.ran.items) (get_or ids k i)) (sym a.1) (finished_at (λ w. w.ran.items) ids finished f k i x lt);
+      finishes = subst (IsFinished {W = RunCounter} (λ w. w.ran.items) (get_or ids k i)) (sym a.1) (finished_at (λ w. w.ran.items) ids finished f k i x lt);
       sent = subst (λ (z : Group). IsSent plan (get_or ids k i) z.senders.items p) (sym b.1)
           (subst (λ (z : Known). IsSent plan (get_or ids k i) (get_or groups k g).senders.items z) (sym c.1) (s.each k i g p lt));
     }

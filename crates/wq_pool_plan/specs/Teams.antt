@@ -4,7 +4,7 @@ use Rattle.wq_live.specs.Known.{Known, new_sender}
 use Rattle.wq_worker.specs.State.{WorkerState}
 use Rattle.wq_plan.specs.declared.plan.Plan.{Plan}
 use Rattle.wq_plan.specs.Plan.{IsLayoutOf}
-use Rattle.wq_race.specs.declared.idle.Idle.{Idle}
+use Rattle.wq_race.specs.declared.run_counter.RunCounter.{RunCounter}
 use Rattle.wq_pool_plan.specs.declared.teams.Group.{Group}
 use Rattle.wq_pool_plan.specs.declared.teams.Teams.{Teams}
 
@@ -28,10 +28,11 @@ pub record AreTeams (plan : Plan) (teams : Teams) : Type 0 where
   pub programs_count : length teams.programs.items ≡ length teams.served.items
   pub groups_count : length teams.groups.items ≡ plan.senders
   pub lengths : (s : ℕ) (d : Group) → s < plan.senders → length (slice_index_or teams.groups.items s d).senders.items ≡ length teams.served.items
-  pub sized : (q : ℕ) (w : WorkerState Idle) → q < length teams.served.items → IsLayoutOf plan.senders plan.own (slice_index_or teams.served.items q w).layout
-  pub numbers : (q : ℕ) (w : WorkerState Idle) → q < length teams.served.items → (slice_index_or teams.served.items q w).number ≡ plan.senders
-  pub programs : (q : ℕ) (w : WorkerState Idle) (x : Known) → q < length teams.served.items → slice_index_or teams.programs.items q x
+  pub sized : (q : ℕ) (w : WorkerState RunCounter) → q < length teams.served.items
+      → IsLayoutOf plan.senders plan.own (slice_index_or teams.served.items q w).layout
+  pub numbers : (q : ℕ) (w : WorkerState RunCounter) → q < length teams.served.items → (slice_index_or teams.served.items q w).number ≡ plan.senders
+  pub programs : (q : ℕ) (w : WorkerState RunCounter) (x : Known) → q < length teams.served.items → slice_index_or teams.programs.items q x
       ≡ new_sender (slice_index_or teams.served.items q w).queue (slice_index_or teams.served.items q w).layout (plan.senders + 1)
-  pub senders : (s q : ℕ) (w : WorkerState Idle) (d : Group) (x : Known) → s < plan.senders → q < length teams.served.items
+  pub senders : (s q : ℕ) (w : WorkerState RunCounter) (d : Group) (x : Known) → s < plan.senders → q < length teams.served.items
       → slice_index_or (slice_index_or teams.groups.items s d).senders.items q x
       ≡ new_sender (slice_index_or teams.served.items q w).queue (slice_index_or teams.served.items q w).layout s

@@ -15,11 +15,14 @@ use std::thread::yield_now;
 use wq_live::Sender;
 use wq_plan::Plan;
 use wq_pool::{Pool, PoolFault};
-use wq_race::{Idle, Outcome, RaceError, enter, enter_all, queued_by};
+use wq_race::{Outcome, RaceError, RunCounter, enter, enter_all, queued_by};
 use wq_worker::{Book, Totals, Unbalanced};
 
 /// Takes a pool apart, when it has run: the works and the books, by queue.
-pub(crate) fn finish<R: Wait>(rt: &R, mut pool: Pool<Idle>) -> Result<Vec<(Idle, Book)>, RaceError>
+pub(crate) fn finish<R: Wait>(
+    rt: &R,
+    mut pool: Pool<RunCounter>,
+) -> Result<Vec<(RunCounter, Book)>, RaceError>
     ensures { IfOk result (λ finished. AreFinished (λ w. w.ran.items) pool.workers finished.items) }
 {
     for _ in rt.forever() {
@@ -107,7 +110,7 @@ fn settle(
 // What came of one queue.
 fn balance_one(
     alloc: Global,
-    work: Idle,
+    work: RunCounter,
     mut book: Book,
     group: Group,
     program: Sender,
@@ -141,7 +144,7 @@ fn both(one: Outcome, other: Outcome) -> Outcome
 /// What came of all queues.
 pub(crate) fn balance_all(
     alloc: Global,
-    mut finished: Vec<(Idle, Book)>,
+    mut finished: Vec<(RunCounter, Book)>,
     mut by_queue: Vec<Group>,
     mut programs: Vec<Sender>,
 ) -> Result<Outcome, AllocError>

@@ -17,7 +17,7 @@ use std::thread::{JoinHandle, Promise, PromisedHandle, Scope, Threads, scope, sc
 use wq_live::Sender;
 use wq_plan::Plan;
 use wq_pool::{Caller, NoGate, Pool, PoolError, Served};
-use wq_race::{Idle, Outcome, RaceError, join_wanted, run_plan};
+use wq_race::{Outcome, RaceError, RunCounter, join_wanted, run_plan};
 
 /// A thread gives back the group that it was given, whose senders have each queued their own items: so many.
 #[derive(Drop)]
@@ -43,7 +43,7 @@ struct Callers {
 #[derive(Drop)]
 pub struct Raced {
     /// The pool, of as many queues as the plan has.
-    pub pool: Pool<Idle>,
+    pub pool: Pool<RunCounter>,
     /// The plan's senders, a group for each queue.
     pub by_queue: Vec<Group>,
     /// The program's senders, one of each queue.
@@ -53,9 +53,9 @@ pub struct Raced {
 // A pool of these queues, and its callers.
 fn make_pool(
     alloc: Global,
-    served: Vec<Served<Idle>>,
+    served: Vec<Served<RunCounter>>,
     plan: Plan,
-) -> Result<(Pool<Idle>, Callers), RaceError>
+) -> Result<(Pool<RunCounter>, Callers), RaceError>
     requires { length served.items ≡ plan.queues }
     ensures workers { IfOk result (λ made. made.0.workers ≡ map worker_id served.items) }
     ensures callers { IfOk result (λ made. AreCallersOf made.0.ready plan.senders made.1) }
@@ -82,7 +82,7 @@ fn make_pool(
 fn start_workers<'s, E, R: Threads + Wait + Sync>(
     scope: &Scope<'s, E>,
     rt: &'s R,
-    pool: &'s Pool<Idle>,
+    pool: &'s Pool<RunCounter>,
     mut workers: Vec<Caller>,
 ) -> Option<JoinHandle<()>>
     requires { All (IsCallerOf pool.now.ready) workers.items }
@@ -102,7 +102,7 @@ fn start_workers<'s, E, R: Threads + Wait + Sync>(
 fn start_group<'s, E, R: Wait + Sync>(
     scope: &Scope<'s, E>,
     rt: &'s R,
-    pool: &'s Pool<Idle>,
+    pool: &'s Pool<RunCounter>,
     caller: Caller,
     group: Group,
     own: u32,
@@ -130,7 +130,7 @@ fn start_groups<'s, E, R: Wait + Sync>(
     scope: &Scope<'s, E>,
     rt: &'s R,
     alloc: Global,
-    pool: &'s Pool<Idle>,
+    pool: &'s Pool<RunCounter>,
     mut callers: Vec<Caller>,
     groups: Vec<Group>,
     own: u32,
@@ -160,7 +160,7 @@ fn run_groups<'s, E, R: Threads + Wait + Sync>(
     scope: &Scope<'s, E>,
     rt: &'s R,
     alloc: Global,
-    pool: &'s Pool<Idle>,
+    pool: &'s Pool<RunCounter>,
     callers: Vec<Caller>,
     groups: Vec<Group>,
     own: u32,
@@ -180,7 +180,7 @@ fn run_threads<'s, E, R: Threads + Wait + Sync>(
     scope: &Scope<'s, E>,
     rt: &'s R,
     alloc: Global,
-    pool: &'s Pool<Idle>,
+    pool: &'s Pool<RunCounter>,
     callers: Callers,
     groups: Vec<Group>,
     mut programs: Vec<Sender>,
@@ -209,7 +209,7 @@ fn run_threads<'s, E, R: Threads + Wait + Sync>(
 fn run_scope<R: Threads + Wait + Sync>(
     rt: &R,
     alloc: Global,
-    pool: &Pool<Idle>,
+    pool: &Pool<RunCounter>,
     callers: Callers,
     groups: Vec<Group>,
     programs: Vec<Sender>,

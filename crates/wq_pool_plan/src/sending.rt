@@ -9,10 +9,10 @@ use crate::teams::Group;
 use std::sync::Wait;
 use wq_live::{Answer, Sender};
 use wq_pool::{Caller, Pool};
-use wq_race::{Idle, queue_stop};
+use wq_race::{RunCounter, queue_stop};
 
 // Does what the answer of a queueing on this queue asks for.
-fn wake<R: Wait>(rt: &R, pool: &Pool<Idle>, caller: &mut Caller, queue: u32, answer: Answer)
+fn wake<R: Wait>(rt: &R, pool: &Pool<RunCounter>, caller: &mut Caller, queue: u32, answer: Answer)
     requires caller { IsCallerOf pool.now.ready caller.old }
     requires queue { queue < length pool.now.workers }
     ensures { IsCallerOf pool.now.ready caller.new }
@@ -25,7 +25,7 @@ fn wake<R: Wait>(rt: &R, pool: &Pool<Idle>, caller: &mut Caller, queue: u32, ans
 // Queues an item, and announces the queue where that wakes it.
 fn queue_item<R: Wait>(
     rt: &R,
-    pool: &Pool<Idle>,
+    pool: &Pool<RunCounter>,
     caller: &mut Caller,
     queue: u32,
     sender: &mut Sender,
@@ -44,7 +44,7 @@ fn queue_item<R: Wait>(
 // Queues the sender's own items in order, once each.
 fn queue_own<R: Wait>(
     rt: &R,
-    pool: &Pool<Idle>,
+    pool: &Pool<RunCounter>,
     caller: &mut Caller,
     queue: u32,
     sender: &mut Sender,
@@ -65,7 +65,7 @@ fn queue_own<R: Wait>(
 /// Queues the own items of the senders of one number, on each queue in turn.
 pub(crate) fn queue_group<R: Wait>(
     rt: &R,
-    pool: &Pool<Idle>,
+    pool: &Pool<RunCounter>,
     mut caller: Caller,
     mut group: Group,
     own: u32,
@@ -85,7 +85,7 @@ pub(crate) fn queue_group<R: Wait>(
 /// Queues the stop item of each queue.
 pub(crate) fn stop_all<R: Wait>(
     rt: &R,
-    pool: &Pool<Idle>,
+    pool: &Pool<RunCounter>,
     mut caller: Caller,
     programs: &mut Vec<Sender>,
 )

@@ -7,7 +7,7 @@ use std::alloc::{AllocError, Global};
 use wq_live::{BuildError, Sender};
 use wq_plan::Plan;
 use wq_pool::Served;
-use wq_race::{Idle, Team};
+use wq_race::{RunCounter, Team};
 
 /// A row of senders: those of one number, by queue, until their threads have ended, and in a `Raced` those of one queue, by number.
 #[derive(Drop)]
@@ -19,7 +19,7 @@ pub struct Group {
 /// The workers and the program's own senders, by queue, and the plan's senders, a group for each number.
 #[derive(Drop)]
 pub(crate) struct Teams {
-    pub(crate) served: Vec<Served<Idle>>,
+    pub(crate) served: Vec<Served<RunCounter>>,
     pub(crate) programs: Vec<Sender>,
     pub(crate) groups: Vec<Group>,
 }

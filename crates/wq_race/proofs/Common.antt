@@ -47,6 +47,6 @@ pub use Rattle.wq_race.specs.Race.{items_at, IsOfStop, HasRaced, HasQueued, trie
 pub use Rattle.wq_race.specs.Race.{IsQueuer}
 pub use Rattle.wq_race.specs.Sends.{RefusesFor, SendsOne, SendsAll, pushed, busy, refused}
 pub use Rattle.wq_race.specs.Team.{IsNewTeam}
-pub use Rattle.wq_race.specs.declared.idle.Idle.{Idle}
+pub use Rattle.wq_race.specs.declared.run_counter.RunCounter.{RunCounter}
 pub use Rattle.wq_race.specs.declared.race.QueuesOwn.{QueuesOwn}
 pub use Rattle.wq_race.specs.declared.team.Team.{Team}

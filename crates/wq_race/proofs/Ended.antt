@@ -5,7 +5,7 @@ use Rattle.wq_race.proofs.Common.{IsPrefix, Layout, Event, Back, is_close, is_dr
 use Rattle.wq_race.proofs.Common.{closed_count, count_same, owner_seat, Why, RefusesFor, ended_same, Known, is_queued_by, is_chain, is_chain_busy}
 use Rattle.wq_race.proofs.Common.{sender_counts, owner_counts, LedgerState, BookState}
 use Rattle.wq_race.proofs.Common.{Unbalanced, AreWhole, AreOwnerWhole, ledgers_of, HasOne, IsUnbalanced, is_queued_below, below_more, below_all, WorkerState}
-use Rattle.wq_race.proofs.Common.{items_among, SendsAll, count_by-append, accepted-count, Idle, Plan, Team, items_at, IsOfStop, HasRaced, queueings, TellsOutcome}
+use Rattle.wq_race.proofs.Common.{items_among, SendsAll, count_by-append, accepted-count, RunCounter, Plan, Team, items_at, IsOfStop, HasRaced, queueings, TellsOutcome}
 use Rattle.wq_race.proofs.Common.{IsWhole, IsBookAfter, IsLedgerOf, HasMet, AllKnown, HasEnded, HasSettled, ledger_of, own_between, prefix_on}
 use Rattle.wq_race.proofs.Common.{IsComplete, count_by-le-length}
 use Rattle.wq_words.specs.declared.event.Why.TheVariants as why
@@ -55,7 +55,7 @@ surely true P Q m not = refl
 surely false P Q m not = absurd (not m)
 
 -- what a race leaves, once its queue is destroyed and its book has met the senders
-pub record IsOver (plan : Plan) (team : Team) (w : WorkerState Idle) (senders : List Known) (work : Idle) (book last : BookState)
+pub record IsOver (plan : Plan) (team : Team) (w : WorkerState RunCounter) (senders : List Known) (work : RunCounter) (book last : BookState)
     (ledgers : List LedgerState) : Type 0 where
   pub run : HasRaced plan team
   pub met : HasMet team.worker w
@@ -63,7 +63,8 @@ pub record IsOver (plan : Plan) (team : Team) (w : WorkerState Idle) (senders : 
   pub ended : HasEnded w work book
   pub settled : HasSettled book senders team.program last ledgers
 
-module _ (plan : Plan) (team : Team) (w : WorkerState Idle) (senders : List Known) (work : Idle) (book last : BookState) (ledgers : List LedgerState)
+module _ (plan : Plan) (team : Team) (w : WorkerState RunCounter) (senders : List Known) (work : RunCounter) (book last : BookState)
+    (ledgers : List LedgerState)
     (o : IsOver plan team w senders work book last ledgers) where
   size : book.layout ≡ team.worker.layout
   size = o.ended.layout_is ∙ o.met.same.layout_is

@@ -1,11 +1,11 @@
 -- Meetings of a worker and the senders of its queue.
 use Rattle.wq_race.proofs.Common.{◌≡◌, ℕ, List, [], refl, sym, ◌∙◌, subst, append-nil, IsPrefix, Event, IsLegal, owner_seat, own, Known, Sees, WorkerState}
-use Rattle.wq_race.proofs.Common.{Moves, Idle, HasMet, IsKnown, prefix_on, grows_same, own_more, none_of, worker_still, worker_on, moves_same, prefix_self}
+use Rattle.wq_race.proofs.Common.{Moves, RunCounter, HasMet, IsKnown, prefix_on, grows_same, own_more, none_of, worker_still, worker_on, moves_same, prefix_self}
 
-pub met_still : (a : WorkerState Idle) → IsLegal a.layout a.seen → HasMet a a
+pub met_still : (a : WorkerState RunCounter) → IsLegal a.layout a.seen → HasMet a a
 met_still a legal = record { same = worker_still a; begins = prefix_self a.seen; unsent = refl; untouched = refl; legal = legal }
 
-pub met_more : (a b c : WorkerState Idle) → HasMet a b → Moves [] 0 b c → HasMet a c
+pub met_more : (a b c : WorkerState RunCounter) → HasMet a b → Moves [] 0 b c → HasMet a c
 met_more a b c x m =
     let none = none_of b.number m.adds.new m.adds.ours in
     let mine = own_more b.number b.seen m.adds.new c.seen m.adds.is none.0 in

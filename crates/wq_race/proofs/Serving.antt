@@ -3,7 +3,7 @@ use Rattle.wq_race.proofs.Common.{◌≡◌, ◌≢◌, ℕ, ◌+◌, ◌==◌, 
 use Rattle.wq_race.proofs.Common.{append-nil, filter_map-append, Event, Close, End, IsRunning, is_close, is_drain, shut, begun, ended, ended_by, stop_number}
 use Rattle.wq_race.proofs.Common.{IsLegal}
 use Rattle.wq_race.proofs.Common.{IsComplete, owner_seat, seat_of, own, count_same, is_chain, is_chain_busy, is_ours, taking, Follows, WorkerState, Moves}
-use Rattle.wq_race.proofs.Common.{count_by-append, quiet_taking, Idle, BookState, IsLedgerOf, HasServed, HasEnded, or_parts, chain_own}
+use Rattle.wq_race.proofs.Common.{count_by-append, quiet_taking, RunCounter, BookState, IsLedgerOf, HasServed, HasEnded, or_parts, chain_own}
 use Rattle.wq_race.proofs.Common.{chain_busy_own, IsSameWorker, prefix_self, prefix_on, worker_still, worker_on, moves_same, own_more}
 use Rattle.wq_race.specs.Race.{QueuesNothing}
 use Rattle.wq_worker.specs.declared.ran.Ran.{Ran}
@@ -33,7 +33,7 @@ pub quiet_still : (s : ℕ) (h : List Event) → QueuesNothing s h h
 quiet_still s h = record { begins = prefix_self h; unsent = refl; unchained = refl; unasked = refl }
 
 -- a worker that queued nothing goes on to the history w, and queues nothing
-pub quiet_on : (a b : WorkerState Idle) (w : List Event) → IsSameWorker a b → QueuesNothing a.number a.seen b.seen → QueuesNothing b.number b.seen w
+pub quiet_on : (a b : WorkerState RunCounter) (w : List Event) → IsSameWorker a b → QueuesNothing a.number a.seen b.seen → QueuesNothing b.number b.seen w
     → QueuesNothing a.number a.seen w
 quiet_on a b w same x y = record {
   begins = prefix_on a.seen b.seen w x.begins y.begins;
@@ -43,7 +43,7 @@ quiet_on a b w same x y = record {
 }
 
 -- the same worker, which queued nothing, closed so often, began no drain, and runs nothing
-pub record Plain (n : ℕ) (a b : WorkerState Idle) : Type 0 where
+pub record Plain (n : ℕ) (a b : WorkerState RunCounter) : Type 0 where
   pub same : IsSameWorker a b
   pub quiet : QueuesNothing a.number a.seen b.seen
   pub closes_is : count_by is_close b.seen ≡ count_by is_close a.seen + n
@@ -52,13 +52,13 @@ pub record Plain (n : ℕ) (a b : WorkerState Idle) : Type 0 where
   pub legal : IsLegal a.layout a.seen → IsLegal b.layout b.seen
 
 -- the same worker went on: its sender made no event, its owner chained nothing, and nothing runs
-pub record HasGoneOn (old new : WorkerState Idle) : Type 0 where
+pub record HasGoneOn (old new : WorkerState RunCounter) : Type 0 where
   pub same : IsSameWorker old new
   pub quiet : QueuesNothing old.number old.seen new.seen
   pub idle : ¬ IsRunning new.seen
   pub legal : IsLegal new.layout new.seen
 
-pub plain_still : (a : WorkerState Idle) → ¬ IsRunning a.seen → Plain 0 a a
+pub plain_still : (a : WorkerState RunCounter) → ¬ IsRunning a.seen → Plain 0 a a
 plain_still a idle = record {
   same = worker_still a;
   quiet = quiet_still a.number a.seen;
@@ -68,7 +68,7 @@ plain_still a idle = record {
   legal = λ legal. legal;
 }
 
-pub plain_on : (m n : ℕ) (a b c : WorkerState Idle) → Plain m a b → Plain n b c → Plain (m + n) a c
+pub plain_on : (m n : ℕ) (a b c : WorkerState RunCounter) → Plain m a b → Plain n b c → Plain (m + n) a c
 plain_on m n a b c x y = record {
   same = worker_on a b c x.same y.same;
   quiet = quiet_on a b c.seen x.same x.quiet y.quiet;
@@ -78,7 +78,7 @@ plain_on m n a b c x y = record {
   legal = λ legal. y.legal (x.legal legal);
 }
 
-moves_plain : (xs : List Event) (n : ℕ) (a b : WorkerState Idle) → Still a.number n xs → ¬ IsRunning b.seen → Moves xs 0 a b → Plain n a b
+moves_plain : (xs : List Event) (n : ℕ) (a b : WorkerState RunCounter) → Still a.number n xs → ¬ IsRunning b.seen → Moves xs 0 a b → Plain n a b
 moves_plain xs n a b s idle m =
     let new = m.adds.new in
     let mine : own a.number new ≡ [] = sym (own_of_ours a.number new) ∙ (ap (own a.number) m.adds.ours ∙ s.unsent) in
@@ -99,18 +99,19 @@ moves_plain xs n a b s idle m =
       legal = λ legal. m.legal;
     }
 
-module _ (may : Idle → ℕ → List ℕ → Idle → Type 0) (asks_nothing : (w : Idle) (k : ℕ) (f : List ℕ) (v : Idle) → may w k f v → f ≡ []) where
-  record Started (a : WorkerState Idle) (f : List ℕ) (es : List Event) : Type 0 where
+module _ (may : RunCounter → ℕ → List ℕ → RunCounter → Type 0)
+    (asks_nothing : (w : RunCounter) (k : ℕ) (f : List ℕ) (v : RunCounter) → may w k f v → f ≡ []) where
+  record Started (a : WorkerState RunCounter) (f : List ℕ) (es : List Event) : Type 0 where
     pub none : f ≡ []
     pub still : Still a.number 0 es
 
-  started : (a : WorkerState Idle) (k : ℕ) (f : List ℕ) (v : Idle) (es : List Event) → a.number ≢ owner_seat → ¬ IsRunning a.seen
+  started : (a : WorkerState RunCounter) (k : ℕ) (f : List ℕ) (v : RunCounter) (es : List Event) → a.number ≢ owner_seat → ¬ IsRunning a.seen
       → StartsBy may stays a k f v es → Started a f es
   started a k f v es not idle (item rests lt ran is) = record { none = asks_nothing a.work k f v ran; still = still_begun a.number k not a.seen es is }
   started a k f v es not idle (other rests ge is_none same is) = record { none = is_none; still = still_begun a.number k not a.seen es is }
   started a k f v es not idle (owed runs left same is) = absurd (idle (runs_some a.seen k runs))
 
-  ends_plain : (k : ℕ) (a b : WorkerState Idle) → a.number ≢ owner_seat → ¬ IsRunning a.seen → EndsBy may stays a k b → Plain 0 a b
+  ends_plain : (k : ℕ) (a b : WorkerState RunCounter) → a.number ≢ owner_seat → ¬ IsRunning a.seen → EndsBy may stays a k b → Plain 0 a b
   ends_plain k a b not idle (ends f es fs st told moved rests) =
       let s = started a k f b.work es not idle st in
       let no_follow : fs ≡ [] = subst (λ (ks : List ℕ). Follows a.layout.items a.number (shut a.seen) ks fs) s.none told in
@@ -118,7 +119,7 @@ module _ (may : Idle → ℕ → List ℕ → Idle → Type 0) (asks_nothing : (
       (subst (λ (z : List Event). Still a.number 0 (z ++ End k ∷ [])) (sym no_follow) (still_one a.number 0 (End k) not refl refl refl refl refl)) in
       moves_plain (es ++ (fs ++ End k ∷ [])) 0 a b still rests moved
 
-  nothing_plain : (a b : WorkerState Idle) → a.number ≢ owner_seat → ¬ IsRunning a.seen → Moves (taking a.seen) 0 a b → Plain 0 a b
+  nothing_plain : (a b : WorkerState RunCounter) → a.number ≢ owner_seat → ¬ IsRunning a.seen → Moves (taking a.seen) 0 a b → Plain 0 a b
   nothing_plain a b not idle m =
       let same = quiet_stays (taking a.seen) a.seen b.seen (quiet_taking a.seen) (owner_of_both a.number (taking a.seen) 0 a.seen b.seen m.adds) in
       moves_plain (taking a.seen) 0 a b (still_taking a.number not a.seen) (λ (runs : IsRunning b.seen). idle (omega (
@@ -128,28 +129,28 @@ module _ (may : Idle → ℕ → List ℕ → Idle → Type 0) (asks_nothing : (
         ap (length {A = ℕ}) same.ended_same,
       ))) m
 
-  owes_none : (k : ℕ) (a b : WorkerState Idle) → a.number ≢ owner_seat → ¬ IsRunning a.seen → OwesBy may stays a k b → ⊥
+  owes_none : (k : ℕ) (a b : WorkerState RunCounter) → a.number ≢ owner_seat → ¬ IsRunning a.seen → OwesBy may stays a k b → ⊥
   owes_none k a b not idle (owes f qs j rest es fs st split small left opens told moved runs) = none_cons qs j rest (sym split
       ∙ (started a k f b.work es not idle st).none)
 
-  runs_plain : (r : Ran) (a b : WorkerState Idle) → a.number ≢ owner_seat → ¬ IsRunning a.seen → Runs may r a b → Plain 0 a b
+  runs_plain : (r : Ran) (a b : WorkerState RunCounter) → a.number ≢ owner_seat → ¬ IsRunning a.seen → Runs may r a b → Plain 0 a b
   runs_plain (Item k) a b not idle t = ends_plain t.0 a b not idle t.2
   runs_plain (Barrier k) a b not idle t = ends_plain t.0 a b not idle t.2
   runs_plain Stop a b not idle t = ends_plain t.0 a b not idle t.2
   runs_plain Nothing a b not idle t = nothing_plain a b not idle t.3
   runs_plain (Owing k) a b not idle t = absurd (owes_none k a b not idle t)
 
-  pub row_plain : (P : Ran → Type 0) (n : ℕ) (a b : WorkerState Idle) → a.number ≢ owner_seat → ¬ IsRunning a.seen → RowBy may stays P n a b → Plain 0 a b
+  pub row_plain : (P : Ran → Type 0) (n : ℕ) (a b : WorkerState RunCounter) → a.number ≢ owner_seat → ¬ IsRunning a.seen → RowBy may stays P n a b → Plain 0 a b
   row_plain P n a b not idle (none c) = plain_still c idle
   row_plain P n a b not idle (more m r c d e row passes run) =
       let before = row_plain P m c d not idle row in
       plain_on 0 0 c d e before (runs_plain r d e (subst (λ (s : ℕ). s ≢ owner_seat) (sym before.same.number_is) not) before.idle run)
 
-  legal_ends : (k : ℕ) (a b : WorkerState Idle) → EndsBy may stays a k b → IsLegal b.layout b.seen
+  legal_ends : (k : ℕ) (a b : WorkerState RunCounter) → EndsBy may stays a k b → IsLegal b.layout b.seen
   legal_ends k a b (ends f es fs st told moved rests) = moved.legal
 
   -- what ended last is what this execution was of
-  ended_last : (k : ℕ) (a b : WorkerState Idle) → EndsBy may stays a k b → (before : List ℕ) × (ended b.seen ≡ before ++ k ∷ [])
+  ended_last : (k : ℕ) (a b : WorkerState RunCounter) → EndsBy may stays a k b → (before : List ℕ) × (ended b.seen ≡ before ++ k ∷ [])
   ended_last k a b (ends f es fs st told moved rests) =
       let all = es ++ (fs ++ End k ∷ []) in let front = ended es ++ ended fs in
       let is : ended all ≡ front ++ k ∷ [] = filter_map-append ended_by es (fs ++ End k ∷ [])
@@ -159,7 +160,7 @@ module _ (may : Idle → ℕ → List ℕ → Idle → Type 0) (asks_nothing : (
             ∙ (ap (λ (z : List ℕ). ended a.seen ++ z) is ∙ sym (append_assoc (ended a.seen) front (k ∷ []))),
       )
 
-  pub serves_plain : (a b : WorkerState Idle) → a.number ≢ owner_seat → ¬ IsRunning a.seen → Serves may a b → HasServed a b
+  pub serves_plain : (a b : WorkerState RunCounter) → a.number ≢ owner_seat → ¬ IsRunning a.seen → Serves may a b → HasServed a b
   serves_plain a b not idle s =
       let before = row_plain IsNotStop s.steps a s.last not idle s.row in
       let final = runs_plain Stop s.last b (subst (λ (c : ℕ). c ≢ owner_seat) (sym before.same.number_is) not) before.idle s.stops in
@@ -177,8 +178,8 @@ module _ (may : Idle → ℕ → List ℕ → Idle → Type 0) (asks_nothing : (
       }
 
   -- a close, where the queue was not closed
-  pub closes_plain : (a b : WorkerState Idle) → a.number ≢ owner_seat → ¬ IsRunning a.seen → Closes a b → (n : ℕ) × Plain n a b
-  closes_plain a b not idle (was_closed is same) = (0, subst (λ (c : WorkerState Idle). Plain 0 a c) (sym same) (plain_still a idle))
+  pub closes_plain : (a b : WorkerState RunCounter) → a.number ≢ owner_seat → ¬ IsRunning a.seen → Closes a b → (n : ℕ) × Plain n a b
+  closes_plain a b not idle (was_closed is same) = (0, subst (λ (c : WorkerState RunCounter). Plain 0 a c) (sym same) (plain_still a idle))
   closes_plain a b not idle (closes opens m work left) =
       let o = owner_of_both a.number (Close ∷ []) 0 a.seen b.seen m.adds in
       let begun_is = ap (length {A = ℕ}) (o.begun_is ∙ append-nil (begun a.seen)) in
@@ -188,7 +189,7 @@ module _ (may : Idle → ℕ → List ℕ → Idle → Type 0) (asks_nothing : (
             (λ (runs : IsRunning b.seen). idle (omega (arith, runs, begun_is, ended_is))) m,
       )
 
-  pub leaves_on : (limit : ℕ) (a b : WorkerState Idle) (left : ℕ) → a.number ≢ owner_seat → ¬ IsRunning a.seen
+  pub leaves_on : (limit : ℕ) (a b : WorkerState RunCounter) (left : ℕ) → a.number ≢ owner_seat → ¬ IsRunning a.seen
       → IsLegal a.layout a.seen → LeavesUnfinished may limit a b left → HasGoneOn a b
   leaves_on limit a b left not idle legal l =
       let first = closes_plain a l.closed not idle l.closes in
@@ -196,8 +197,8 @@ module _ (may : Idle → ℕ → List ℕ → Idle → Type 0) (asks_nothing : (
       let all = plain_on first.0 0 a l.closed b first.1 rest in
       record { same = all.same; quiet = all.quiet; idle = all.idle; legal = all.legal legal }
 
-  pub destroys_on : (log : Idle → List ℕ) → ((w : Idle) → log w ≡ w.ran.items)
-      → (limit : ℕ) (a : WorkerState Idle) (work : Idle) (book : BookState) → a.number ≢ owner_seat → ¬ IsRunning a.seen → IsLegal a.layout a.seen
+  pub destroys_on : (log : RunCounter → List ℕ) → ((w : RunCounter) → log w ≡ w.ran.items)
+      → (limit : ℕ) (a : WorkerState RunCounter) (work : RunCounter) (book : BookState) → a.number ≢ owner_seat → ¬ IsRunning a.seen → IsLegal a.layout a.seen
       → Destroys log may limit a work book → IsLedgerOf book.seen book.own → HasEnded a work book
   destroys_on log log_is limit a work book not idle legal d made =
       let first = closes_plain a d.closed not idle d.closes in

@@ -10,7 +10,7 @@ use Rattle.wq_words.specs.Seen.{own, owner_seat}
 use Rattle.wq_worker.specs.State.{WorkerState, items_among, IsSameWorker}
 use Rattle.wq_plan.specs.declared.plan.Plan.{Plan}
 use Rattle.wq_plan.specs.Plan.{IsLayoutOf}
-use Rattle.wq_race.specs.declared.idle.Idle.{Idle}
+use Rattle.wq_race.specs.declared.run_counter.RunCounter.{RunCounter}
 use Rattle.wq_race.specs.declared.outcome.Outcome.{Outcome}
 use Rattle.wq_race.specs.Race.{items_at, EndsWithStop, QueuesNothing}
 use Rattle.wq_live.specs.Known.{Known, IsSame}
@@ -35,7 +35,7 @@ queueings s (k ∷ ks) = Hold s k ∷ Push s k ∷ queueings s ks
 
 -- The book of a worker's queue that ran to its end with this history: it has the ledger of the worker's own sender, and what it
 -- has seen goes on from the history, legal and at its end too, without an event of the owner.
-pub record IsBookAfter (worker : WorkerState Idle) (history : List Event) (book : BookState) : Type 0 where
+pub record IsBookAfter (worker : WorkerState RunCounter) (history : List Event) (book : BookState) : Type 0 where
   pub queue_is : book.queue ≡ worker.queue
   pub layout_is : book.layout ≡ worker.layout
   pub number_is : book.own.number ≡ worker.number
@@ -50,7 +50,7 @@ pub record IsBookAfter (worker : WorkerState Idle) (history : List Event) (book 
 -- many executions of items ended: barriers and the stop item are no items. The worker served until the stop item had ended, and
 -- the queue was closed after that. The book is that queue's, and made these ledgers: the outcome says that it balances just
 -- where each sender but the worker's has one of them and they balance with the book.
-pub record TellsOutcome (plan : Plan) (worker : WorkerState Idle) (book : BookState) (ledgers : List LedgerState) (outcome : Outcome) : Type 0 where
+pub record TellsOutcome (plan : Plan) (worker : WorkerState RunCounter) (book : BookState) (ledgers : List LedgerState) (outcome : Outcome) : Type 0 where
   pub history : List Event
   pub begins : IsPrefix worker.seen history
   pub legal : IsLegal worker.layout history
@@ -65,7 +65,7 @@ pub record TellsOutcome (plan : Plan) (worker : WorkerState Idle) (book : BookSt
 
 -- the outcome is of some worker of the plan's queue, of the book of that queue, and of ledgers
 pub record TellsRace (plan : Plan) (outcome : Outcome) : Type 0 where
-  pub worker : WorkerState Idle
+  pub worker : WorkerState RunCounter
   pub book : BookState
   pub ledgers : List LedgerState
   pub sized : IsLayoutOf plan.senders plan.own worker.layout
@@ -78,7 +78,7 @@ pub record IsWhole (plan : Plan) (outcome : Outcome) : Type 0 where
   pub balanced : outcome.is_balanced ≡ true
 
 -- the same worker, which may have seen more
-pub record HasMet (old new : WorkerState Idle) : Type 0 where
+pub record HasMet (old new : WorkerState RunCounter) : Type 0 where
   pub same : IsSameWorker old new
   pub begins : IsPrefix old.seen new.seen
   pub unsent : own old.number new.seen ≡ own old.number old.seen
@@ -98,7 +98,7 @@ pub record AllKnown (seen : List Event) (olds news : List Known) : Type 0 where
 
 -- The queue of this worker was destroyed: its sender made no event, its owner chained nothing, all that was accepted has ended,
 -- the work ran the items among it, and the book has the ledger of the worker's own sender.
-pub record HasEnded (old : WorkerState Idle) (work : Idle) (book : BookState) : Type 0 where
+pub record HasEnded (old : WorkerState RunCounter) (work : RunCounter) (book : BookState) : Type 0 where
   pub queue_is : book.queue ≡ old.queue
   pub layout_is : book.layout ≡ old.layout
   pub number_is : book.own.number ≡ old.number

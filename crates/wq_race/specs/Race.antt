@@ -20,7 +20,7 @@ use Rattle.wq_words.specs.Counting.{is_chain, is_chain_busy}
 use Rattle.wq_worker.specs.State.{WorkerState, IsSameWorker}
 use Rattle.wq_plan.specs.declared.plan.Plan.{Plan}
 use Rattle.wq_plan.specs.Plan.{IsLayoutOf}
-use Rattle.wq_race.specs.declared.idle.Idle.{Idle}
+use Rattle.wq_race.specs.declared.run_counter.RunCounter.{RunCounter}
 use Rattle.wq_race.specs.declared.team.Team.{Team}
 use Rattle.wq_race.specs.declared.race.QueuesOwn.{QueuesOwn}
 use Rattle.wq_race.specs.Sends.{SendsAll}
@@ -88,7 +88,7 @@ pub record QueuesNothing (s : ℕ) (old new : List Event) : Type 0 where
 
 -- A worker whose work asks for nothing served: its sender made no event, its owner chained nothing and neither closed nor
 -- drained the queue, the stop item ended last, and nothing runs.
-pub record HasServed (old new : WorkerState Idle) : Type 0 where
+pub record HasServed (old new : WorkerState RunCounter) : Type 0 where
   pub same : IsSameWorker old new
   pub quiet : QueuesNothing old.number old.seen new.seen
   pub closes_is : count_by is_close new.seen ≡ count_by is_close old.seen

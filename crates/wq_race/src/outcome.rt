@@ -10,7 +10,7 @@ ghost use Rattle.wq_race.specs.Race.{HasRaced};
 ghost use Rattle.wq_race.specs.Outcome.{outcome_line, yes_or_no as said, TellsOutcome, IsWhole, HasMet, AllKnown, HasEnded};
 ghost use Rattle.wq_race.specs.Outcome.{HasHeard, ledger_of, IsTold, queued_sum, HasSettled};
 
-use crate::idle::Idle;
+use crate::run_counter::RunCounter;
 use crate::team::Team;
 use std::alloc::{AllocError, Global};
 use std::sync::Wait;
@@ -76,7 +76,7 @@ pub fn enter_all(
 }
 
 // Each sender meets the worker: what it did comes before all that the worker does from now on.
-fn meet_senders(worker: &mut Worker<Idle>, senders: &mut Vec<Sender>)
+fn meet_senders(worker: &mut Worker<RunCounter>, senders: &mut Vec<Sender>)
     requires one { All (λ s. s.queue ≡ worker.old.queue) senders.old.items }
     requires legal { IsLegal worker.old.layout worker.old.seen }
     ensures worker { HasMet worker.old worker.new }
@@ -88,7 +88,7 @@ fn meet_senders(worker: &mut Worker<Idle>, senders: &mut Vec<Sender>)
 }
 
 // Destroys the queue of a worker, again and again until nothing is left.
-fn destroy<R: Wait>(rt: &R, mut worker: Worker<Idle>) -> (Idle, Book)
+fn destroy<R: Wait>(rt: &R, mut worker: Worker<RunCounter>) -> (RunCounter, Book)
     requires seat { worker.number ≢ owner_seat }
     requires idle { ¬ IsRunning worker.seen }
     requires legal { IsLegal worker.layout worker.seen }

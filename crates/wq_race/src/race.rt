@@ -7,8 +7,8 @@ ghost use Rattle.wq_race.specs.Race.{items_at, HasQueued, HasStopped, IsStopAnsw
 ghost use Rattle.wq_race.specs.Team.{IsNewTeam};
 ghost use Rattle.wq_race.specs.Outcome.{IsWhole, TellsRace};
 
-use crate::idle::Idle;
 use crate::outcome::Outcome;
+use crate::run_counter::RunCounter;
 use crate::team::Team;
 use crate::threads::join_wanted;
 use crossbeam_utils::sync::{Parker, Unparker};
@@ -57,14 +57,14 @@ impl Promise<Sender> for QueuesOwn {
 
 /// A thread gives back the worker that it was given, which has served.
 #[derive(Drop)]
-pub struct ServesQueue(Snapshot<Worker<Idle>>);
+pub struct ServesQueue(Snapshot<Worker<RunCounter>>);
 
-impl Promise<Worker<Idle>> for ServesQueue {
+impl Promise<Worker<RunCounter>> for ServesQueue {
     ghost kept_by = { λ given back. HasServed given.0.value back };
 }
 
 /// The thread of the worker, where one could be made.
-pub type Serving = Option<PromisedHandle<Worker<Idle>, ServesQueue>>;
+pub type Serving = Option<PromisedHandle<Worker<RunCounter>, ServesQueue>>;
 
 /// Queues an item, and wakes the worker where it is the first on an empty list: a worker that serves takes the rest with it.
 pub fn queue_item<R: Wait>(rt: &R, sender: &mut Sender, item: u32, unparker: &Unparker)
@@ -89,7 +89,7 @@ fn queue_own<R: Wait>(rt: &R, mut sender: Sender, own: u32, unparker: Unparker) 
 }
 
 // Serves until the stop item ran.
-fn serve<R: Wait>(rt: &R, mut worker: Worker<Idle>, parker: Parker) -> Worker<Idle>
+fn serve<R: Wait>(rt: &R, mut worker: Worker<RunCounter>, parker: Parker) -> Worker<RunCounter>
     requires seat { worker.number ≢ owner_seat }
     requires open { ¬ IsShut worker.seen }
     requires idle { ¬ IsRunning worker.seen }
@@ -169,7 +169,7 @@ fn start_sender<'s, E, R: Wait + Sync>(
 fn start_worker<'s, E, R: Wait + Sync>(
     scope: &Scope<'s, E>,
     rt: &'s R,
-    worker: Worker<Idle>,
+    worker: Worker<RunCounter>,
     parker: Parker,
 ) -> Serving
     requires seat { worker.number ≢ owner_seat }

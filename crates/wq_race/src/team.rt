@@ -2,7 +2,7 @@
 ghost use Rattle.std.specs.Prelude.{◌≡◌, ◌<◌, [], ◌∷◌, ◌++◌, length, IfOk};
 ghost use Rattle.wq_race.specs.Team.{IsNewTeam};
 
-use crate::idle::Idle;
+use crate::run_counter::RunCounter;
 use std::alloc::Global;
 use wq_live::{BuildError, Sender, build};
 use wq_plan::Plan;
@@ -15,7 +15,7 @@ const WORKER_TRIES: u32 = 1;
 #[derive(Drop)]
 pub struct Team {
     /// The worker, which owns the queue.
-    pub worker: Worker<Idle>,
+    pub worker: Worker<RunCounter>,
     /// The plan's senders, by number.
     pub senders: Vec<Sender>,
     /// The program's own sender, which queues the stop item.
@@ -45,7 +45,7 @@ impl Team {
         let program = take_last(&mut senders);
         let own = take_last(&mut senders);
         Ok(Team {
-            worker: Worker::new(owner, own, Idle::new(), WORKER_TRIES),
+            worker: Worker::new(owner, own, RunCounter::new(), WORKER_TRIES),
             senders,
             program,
         })

@@ -11,13 +11,13 @@ pub use Rattle.wq_words.specs.declared.layout.Layout.{Layout}
 pub use Rattle.wq_check.specs.declared.cause.Cause.{Cause}
 pub use Rattle.wq_text.specs.declared.fault.FaultKind.{FaultKind}
 pub use Rattle.wq_text.specs.declared.fault.ScriptError.{ScriptError}
-pub use Rattle.wq_text.specs.declared.header.Stage.{Stage}
+pub use Rattle.wq_text.specs.declared.header.Awaited.{Awaited}
 pub use Rattle.wq_text.specs.Line.{Grammar, Lines, line_gives}
 pub use Rattle.wq_text.specs.Text.{LinesLead, end_fault}
 pub use Rattle.wq_text.specs.Header.{layout_at}
 pub use Rattle.wq_text.specs.Word.{parts}
-pub use Rattle.wq_recording.specs.declared.stop.Stop.{Stop}
-pub use Rattle.wq_recording.specs.Verdict.{Rules, Verdict, IsLineAt, IsLegalText, StopsWith, IsRefusedText, HasVerdict, HasFaultAt}
+pub use Rattle.wq_recording.specs.declared.violation.Violation.{Violation}
+pub use Rattle.wq_recording.specs.Verdict.{Rules, Verdict, IsLineAt, IsLegalText, IsFirstViolation, IsRefusedText, HasVerdict, HasFaultAt}
 pub use Rattle.wq_recording.specs.Verdict.{last_fault, short_line, recording_line}
-pub use Rattle.wq_recording.specs.Recording.{StopsAmong}
+pub use Rattle.wq_recording.specs.Recording.{ViolatesAmong}
 pub use Rattle.wq_recording.specs.Judging.{HasTold, IsMadeAt, TellsAll, ComesTo}

@@ -1,9 +1,9 @@
 -- The rules of histories and of traces fit their lines.
 use Rattle.wq_recording.proofs.Common.{◌≡◌, ℕ, Bool, true, false, List, [], ◌∷◌, Option, Some, None, Result, Ok, Err, sym, ap}
-use Rattle.wq_recording.proofs.Common.{Layout, FaultKind, Stage, Grammar, line_gives, recording_line, none-some}
+use Rattle.wq_recording.proofs.Common.{Layout, FaultKind, Awaited, Grammar, line_gives, recording_line, none-some}
 use Rattle.std.specs.Prelude.{if◌then◌else◌}
 use Rattle.std.specs.Str.{bytes_eq}
-use Rattle.wq_text.specs.declared.header.Stage.TheVariants as stage
+use Rattle.wq_text.specs.declared.header.Awaited.TheVariants as awaited
 use Rattle.wq_text.specs.declared.fault.FaultKind.TheVariants as kind
 use Rattle.wq_text.specs.Fault.{◌>>=◌, need, found, of_none, of_one}
 use Rattle.wq_text.specs.Header.{is_header, header_line_gives, layout_at}
@@ -16,22 +16,22 @@ use Rattle.wq_recording.specs.HistoryReport.{history_rules}
 use Rattle.wq_recording.specs.Trace.{trace_grammar}
 use Rattle.wq_recording.specs.TraceReport.{trace_rules}
 use Rattle.wq_check.proofs.OneCause.{one_event_cause, one_mark_cause, shown_next}
-use Rattle.wq_recording.proofs.Stages.{stays, ok_behind_need}
+use Rattle.wq_recording.proofs.Awaiting.{stays, ok_behind_need}
 use Rattle.wq_recording.proofs.Verdicts.{AreFit}
 
 -- only behind a whole header is anything asked for
-module _ {N A : Type 0} (g : Grammar N A) (s next : Stage) (a : A) where
+module _ {N A : Type 0} (g : Grammar N A) (s next : Awaited) (a : A) where
   abbrev IsWhole : Type 0
-  IsWhole = (l : Layout) × (next ≡ stage.Commands l)
+  IsWhole = (l : Layout) × (next ≡ awaited.Commands l)
 
-  abbrev asked : Layout → A → Stage × Option A
-  asked l b = (stage.Commands l, Some b)
+  abbrev asked : Layout → A → Awaited × Option A
+  asked l b = (awaited.Commands l, Some b)
 
-  abbrev alone : Stage → Stage × Option A
+  abbrev alone : Awaited → Awaited × Option A
   alone n = (n, None)
 
   by_ask : (l : Layout) (r : Result A FaultKind) → of_one (asked l) r ≡ Ok (next, Some a) → IsWhole
-  by_ask l (Ok b) e = (l, ap (λ (p : Stage × Option A). p.0) (sym (same_ok e)))
+  by_ask l (Ok b) e = (l, ap (λ (p : Awaited × Option A). p.0) (sym (same_ok e)))
   by_ask l (Err k) e = cc
 
   by_layout : (name : N) (w : List ℕ) (ws : List (List ℕ)) (o : Option Layout)
@@ -45,8 +45,8 @@ module _ {N A : Type 0} (g : Grammar N A) (s next : Stage) (a : A) where
   by_name w ws None e = cc
   by_name w ws (Some name) e = by_layout name w ws (layout_at s) e
 
-  none_asked : (r : Result Stage FaultKind) → ◌≡◌ {A = Result (Stage × Option A) FaultKind} (of_one alone r) (Ok (next, Some a)) → ⊥
-  none_asked (Ok n) e = absurd (none-some a (ap (λ (z : Stage × Option A). z.1) (same_ok e)))
+  none_asked : (r : Result Awaited FaultKind) → ◌≡◌ {A = Result (Awaited × Option A) FaultKind} (of_one alone r) (Ok (next, Some a)) → ⊥
+  none_asked (Ok n) e = absurd (none-some a (ap (λ (z : Awaited × Option A). z.1) (same_ok e)))
   none_asked (Err k) e = cc
 
   by_first : (w : List ℕ) (ws : List (List ℕ)) (b : Bool)
@@ -60,20 +60,20 @@ module _ {N A : Type 0} (g : Grammar N A) (s next : Stage) (a : A) where
 
   asks_plain : (line : List ℕ) (b : Bool) → (if b then Ok (s, None) else plain_line_gives g s line) ≡ Ok (next, Some a) → IsWhole
   unfolding plain_line_gives words_give
-  asks_plain line true e = absurd (none-some a (ap (λ (z : Stage × Option A). z.1) (same_ok e)))
+  asks_plain line true e = absurd (none-some a (ap (λ (z : Awaited × Option A). z.1) (same_ok e)))
   asks_plain line false e = asks_words (words line) (ok_behind_need kind.Space _ _ _ (ok_behind_need kind.Bytes _ _ _ e))
 
-asks_line : {N A : Type 0} (g : Grammar N A) (s next : Stage) (a : A) (line : List ℕ) → line_gives g s line ≡ Ok (next, Some a)
-    → (l : Layout) × (next ≡ stage.Commands l)
-asks_line {N} {A} g stage.Version next a line e = absurd (none (need kind.Version (bytes_eq line g.version)) e)
+asks_line : {N A : Type 0} (g : Grammar N A) (s next : Awaited) (a : A) (line : List ℕ) → line_gives g s line ≡ Ok (next, Some a)
+    → (l : Layout) × (next ≡ awaited.Commands l)
+asks_line {N} {A} g awaited.Version next a line e = absurd (none (need kind.Version (bytes_eq line g.version)) e)
   where
-    none : (r : Result (Unit {0}) FaultKind) → ◌≡◌ {A = Result (Stage × Option A) FaultKind} (of_none (stage.Items, None) r) (Ok (next, Some a)) → ⊥
-    none (Ok n) e = none-some a (ap (λ (z : Stage × Option A). z.1) (same_ok e))
+    none : (r : Result (Unit {0}) FaultKind) → ◌≡◌ {A = Result (Awaited × Option A) FaultKind} (of_none (awaited.Items, None) r) (Ok (next, Some a)) → ⊥
+    none (Ok n) e = none-some a (ap (λ (z : Awaited × Option A). z.1) (same_ok e))
     none (Err k) e = cc
-asks_line g stage.Items next a line e = asks_plain g stage.Items next a line (is_passed_over line) e
-asks_line g (stage.Senders l) next a line e = asks_plain g (stage.Senders l) next a line (is_passed_over line) e
-asks_line g (stage.Barriers l) next a line e = asks_plain g (stage.Barriers l) next a line (is_passed_over line) e
-asks_line g (stage.Commands l) next a line e = asks_plain g (stage.Commands l) next a line (is_passed_over line) e
+asks_line g awaited.Items next a line e = asks_plain g awaited.Items next a line (is_passed_over line) e
+asks_line g (awaited.Senders l) next a line e = asks_plain g (awaited.Senders l) next a line (is_passed_over line) e
+asks_line g (awaited.Barriers l) next a line e = asks_plain g (awaited.Barriers l) next a line (is_passed_over line) e
+asks_line g (awaited.Commands l) next a line e = asks_plain g (awaited.Commands l) next a line (is_passed_over line) e
 
 pub history_fits : AreFit (recording_line history_grammar) history_rules
 history_fits = record {

@@ -2,7 +2,7 @@ pub mod Common
 pub mod LineBytes
 pub mod LineEvents
 pub mod Writing
-pub mod Stages
+pub mod Awaiting
 pub mod LineParts
 pub mod Telling
 pub mod LastLine

@@ -1,6 +1,6 @@
 -- How far the bytes of a recording were read.
 use Rattle.wq_recording.proofs.Common.{◌≡◌, ◌≢◌, ℕ, ◌+◌, ◌-◌, ◌<◌, ◌≤◌, ◌⊎◌, List, [], ◌∷◌, ◌++◌, length, drop, Option, Some, None, IfSome, refl, sym, ap, subst}
-use Rattle.wq_recording.proofs.Common.{◌∙◌, inl, inr, arith, length-append, Layout, Stage, Lines, parts, ScriptError, Stop, Rules}
+use Rattle.wq_recording.proofs.Common.{◌∙◌, inl, inr, arith, length-append, Layout, Awaited, Lines, parts, ScriptError, Violation, Rules}
 use Rattle.std.proofs.Common.{if◌then◌else◌}
 use Rattle.std.proofs.Math.Seq.{drop-append-add, drop-append_seam}
 use Rattle.std.proofs.lemmas.Bool.{le-leb, lt-leb}
@@ -27,16 +27,16 @@ unread_long line [] lt = refl
 unread_long line (p ∷ ps) lt = ap (λ b. if b then p ∷ ps else drop 4097 line ∷ p ∷ ps) (lt-leb (length line) 4096 lt)
 
 module _ {A E C : Type 0} (inner : Lines A) (rules : Rules A E) (layout_of : C → Layout) (after : C → List E → Type 0) where
-  module _ (known : Option (List ℕ)) (n : ℕ) (s : Stage) (checker : Option C) (line : List ℕ) (left : Option (List ℕ))
-      (reads : Reads inner rules layout_of after known n s checker line left) (stop : Option Stop) where
+  module _ (known : Option (List ℕ)) (n : ℕ) (s : Awaited) (checker : Option C) (line : List ℕ) (left : Option (List ℕ))
+      (reads : Reads inner rules layout_of after known n s checker line left) (violation : Option Violation) where
     abbrev IsRead : List ℕ → Type 0
-    IsRead text = IsSomeAnd left (IsReadThrough stop text)
+    IsRead text = IsSomeAnd left (IsReadThrough violation text)
 
-    as_left : (text ys : List ℕ) (o : Option Stop) → left ≡ Some ys → stop ≡ o → IsReadThrough o text ys → IsRead text
+    as_left : (text ys : List ℕ) (o : Option Violation) → left ≡ Some ys → violation ≡ o → IsReadThrough o text ys → IsRead text
     as_left text ys o here is read =
-        subst (λ l. IsSomeAnd l (IsReadThrough stop text)) (sym here) (subst (λ p. IsReadThrough p text ys) (sym is) read)
+        subst (λ l. IsSomeAnd l (IsReadThrough violation text)) (sym here) (subst (λ p. IsReadThrough p text ys) (sym is) read)
 
-    pub read_to_end : stop ≡ None → ¬ EndsWithLf line → line ≡ [] → IfSome known (λ text. IsSomeAnd left (IsReadThrough stop text))
+    pub read_to_end : violation ≡ None → ¬ EndsWithLf line → line ≡ [] → IfSome known (λ text. IsSomeAnd left (IsReadThrough violation text))
     read_to_end none bare empty =
         if_known inner rules layout_of after known n s checker line left IsRead reads
         (λ text rest r. as_left text r.behind None r.left_is none (by_end r.behind r.left_is r.got.ends))
@@ -46,15 +46,15 @@ module _ {A E C : Type 0} (inner : Lines A) (rules : Rules A E) (layout_of : C �
         by_end ys here (inr (inl long)) = absurd (omega (arith, long, ap length empty))
         by_end ys here (inr (inr end)) = subst IsAtEnd here end
 
-    pub read_to_stop : (at : Stop) (t : List ℕ) → stop ≡ Some at → at.line ≡ n → line ≡ t ++ 10 ∷ []
-        → IfSome known (λ text. IsSomeAnd left (IsReadThrough stop text))
-    read_to_stop at t is here whole =
+    pub read_to_violation : (at : Violation) (t : List ℕ) → violation ≡ Some at → at.line ≡ n → line ≡ t ++ 10 ∷ []
+        → IfSome known (λ text. IsSomeAnd left (IsReadThrough violation text))
+    read_to_violation at t is here whole =
         if_known inner rules layout_of after known n s checker line left IsRead reads
         (λ text rest r. as_left text r.behind (Some at) r.left_is is (sym (
         ap (drop at.line) (r.read.split ∙ ap (λ ps. r.read.before ++ ps) (line_is inner rules layout_of after text rest n s checker line left r t whole))
         ∙ behind r.read.before (parts r.behind) t at.line (here ∙ r.read.number))))
 
-  module _ (text rest : List ℕ) (n : ℕ) (s : Stage) (checker : Option C) (line : List ℕ) (left : Option (List ℕ))
+  module _ (text rest : List ℕ) (n : ℕ) (s : Awaited) (checker : Option C) (line : List ℕ) (left : Option (List ℕ))
       (r : IsReading inner rules layout_of after text rest n s checker line left) where
     at_fault : (e : ScriptError) → e.line ≡ n → parts r.behind ≡ unread (parts rest) → IsSomeAnd left (IsReadToFault e text)
     at_fault e here is =
@@ -82,7 +82,7 @@ module _ {A E C : Type 0} (inner : Lines A) (rules : Rules A E) (layout_of : C �
             f.3 ∙ ap (λ (l : List ℕ). l ∷ f.1) (sym cut)
             ∙ sym (ap unread (ap parts r.cut ∙ f.2) ∙ unread_long (line ++ f.0) f.1 (omega (arith, long, length-append line f.0)))
 
-  module _ (known : Option (List ℕ)) (n : ℕ) (s : Stage) (checker : Option C) (line : List ℕ) (left : Option (List ℕ))
+  module _ (known : Option (List ℕ)) (n : ℕ) (s : Awaited) (checker : Option C) (line : List ℕ) (left : Option (List ℕ))
       (reads : Reads inner rules layout_of after known n s checker line left) (e : ScriptError) (here : e.line ≡ n) where
     pub read_to_fault : (t : List ℕ) → line ≡ t ++ 10 ∷ [] → IfSome known (λ text. IsSomeAnd left (IsReadToFault e text))
     read_to_fault t whole =

@@ -1,8 +1,8 @@
 -- What was read of a recording, line by line, and what follows of its text.
 use Rattle.wq_recording.proofs.Common.{◌≡◌, ◌≢◌, ℕ, ◌+◌, ◌<◌, ◌≤◌, ◌⊎◌, List, [], ◌∷◌, ◌++◌, length, Option, Some, None, IfSome, Result, Ok, Err}
 use Rattle.wq_recording.proofs.Common.{refl, sym, ap, subst, ◌∙◌, inl, inr, arith, flat_map, option_to_list, append_assoc, append-nil, length-append, Layout, FaultKind}
-use Rattle.wq_recording.proofs.Common.{ScriptError, Stage, Lines, layout_at, parts, Stop, Rules, IsLineAt, IsRefusedText}
-use Rattle.wq_recording.proofs.Common.{HasFaultAt, last_fault, short_line, StopsAmong, HasTold, IsMadeAt, TellsAll, ComesTo}
+use Rattle.wq_recording.proofs.Common.{ScriptError, Awaited, Lines, layout_at, parts, Violation, Rules, IsLineAt, IsRefusedText}
+use Rattle.wq_recording.proofs.Common.{HasFaultAt, last_fault, short_line, ViolatesAmong, HasTold, IsMadeAt, TellsAll, ComesTo}
 use Rattle.std.proofs.Common.{◌==◌}
 use Rattle.std.proofs.lemmas.Bool.{le-leb, lt-leb}
 use Rattle.std.proofs.lemmas.List.Splits.{length-slice_split}
@@ -15,9 +15,9 @@ use Rattle.wq_recording.specs.Judging.{refusal_of}
 use Rattle.wq_text.specs.declared.fault.ParseError.{ParseError}
 use Rattle.wq_text.specs.declared.fault.ParseError.TheVariants as parse_errors
 use Rattle.wq_text.specs.declared.fault.FaultKind.TheVariants as kind
-use Rattle.wq_text.specs.declared.header.Stage.TheVariants as stage
+use Rattle.wq_text.specs.declared.header.Awaited.TheVariants as awaited
 use Rattle.wq_recording.specs.declared.finding.Finding.{Finding}
-use Rattle.wq_recording.specs.declared.judging.LineOutcome.TheVariants.{Stop as OutcomeStop}
+use Rattle.wq_recording.specs.declared.judging.LineOutcome.TheVariants.{Violation as OutcomeViolation}
 use Rattle.wq_recording.specs.Lines.{EndsWithLf, IsLineRead}
 use Rattle.wq_recording.specs.VerdictText.{verdict_of, SaysOf, Finds}
 use Rattle.wq_recording.proofs.LastLine.{last_long}
@@ -26,13 +26,13 @@ use Rattle.wq_recording.proofs.LineParts.{parts_line, parts_bare, parts_front, w
 use Rattle.std.proofs.lemmas.Grind.{flat_map-append}
 
 module _ {A : Type 0} (inner : Lines A) where
-  pub short_is : (s : Stage) (line : List ℕ) → length line ≤ 4096 → short_line inner s line ≡ inner s line
+  pub short_is : (s : Awaited) (line : List ℕ) → length line ≤ 4096 → short_line inner s line ≡ inner s line
   short_is s line le = ap (λ b. need kind.Size b >>= λ _. inner s line) (le-leb (length line) 4096 le)
 
-  pub long_is : (s : Stage) (line : List ℕ) → 4096 < length line → short_line inner s line ≡ Err kind.Size
+  pub long_is : (s : Awaited) (line : List ℕ) → 4096 < length line → short_line inner s line ≡ Err kind.Size
   long_is s line lt = ap (λ b. need kind.Size b >>= λ _. inner s line) (lt-leb (length line) 4096 lt)
 
-pub too_long : {A E : Type 0} (inner : Lines A) (rules : Rules A E) (text : List ℕ) (s : Stage) (part : List ℕ) (more : List (List ℕ)) (k : FaultKind)
+pub too_long : {A E : Type 0} (inner : Lines A) (rules : Rules A E) (text : List ℕ) (s : Awaited) (part : List ℕ) (more : List (List ℕ)) (k : FaultKind)
     → 4096 < length part → k ≡ kind.Size → HasFaultAt (short_line inner) rules text s part more k
 too_long inner rules text s part [] k long is = last_long s part long ∙ ap (λ (j : FaultKind). Some j) (sym is)
 too_long inner rules text s part (p ∷ ps) k long is = long_is inner s part long ∙ ap (λ (j : FaultKind). Err j) (sym is)
@@ -43,7 +43,7 @@ some_part bytes none = omega (arith, ap length none, length-slice_split (λ b. b
 
 module _ {A E C : Type 0} (inner : Lines A) (rules : Rules A E) (layout_of : C → Layout) (after : C → List E → Type 0) where
   -- of the text the lines before the rest were told, and of the rest this line was read
-  pub record IsReading (text rest : List ℕ) (n : ℕ) (s : Stage) (checker : Option C) (line : List ℕ) (left : Option (List ℕ)) : Type 0 where
+  pub record IsReading (text rest : List ℕ) (n : ℕ) (s : Awaited) (checker : Option C) (line : List ℕ) (left : Option (List ℕ)) : Type 0 where
     pub asked : List A
     pub read : IsReadTo (short_line inner) text rest n s asked
     pub told : HasTold after checker (flat_map rules.tells asked)
@@ -52,7 +52,7 @@ module _ {A E C : Type 0} (inner : Lines A) (rules : Rules A E) (layout_of : C �
     pub left_is : left ≡ Some behind
     pub cut : rest ≡ line ++ behind
 
-  reading : (text rest : List ℕ) (n : ℕ) (s : Stage) (checker : Option C) (line : List ℕ) (left : Option (List ℕ)) (asked : List A)
+  reading : (text rest : List ℕ) (n : ℕ) (s : Awaited) (checker : Option C) (line : List ℕ) (left : Option (List ℕ)) (asked : List A)
       → IsReadTo (short_line inner) text rest n s asked → HasTold after checker (flat_map rules.tells asked)
       → IsLineRead line (Some rest) left → Consumes (Some rest) left line → IsReading text rest n s checker line left
   reading text rest n s checker line None asked read told got taken = absurd taken
@@ -60,16 +60,16 @@ module _ {A E C : Type 0} (inner : Lines A) (rules : Rules A E) (layout_of : C �
       record { asked = asked; read = read; told = told; got = got; behind = ys; left_is = refl; cut = taken }
 
   -- where the bytes are known
-  abbrev pub Reads : Option (List ℕ) → ℕ → Stage → Option C → List ℕ → Option (List ℕ) → Type 0
+  abbrev pub Reads : Option (List ℕ) → ℕ → Awaited → Option C → List ℕ → Option (List ℕ) → Type 0
   Reads known n s checker line left = IfSome known (λ text. (rest : List ℕ) × IsReading text rest n s checker line left)
 
   pub reads_start : (known left : Option (List ℕ)) (line : List ℕ) → Consumes known left line → IsLineRead line known left
-      → Reads known 1 stage.Version None line left
+      → Reads known 1 awaited.Version None line left
   reads_start None left line taken got = tt
   reads_start (Some text) left line taken got =
-      (text, reading text text 1 stage.Version None line left [] (read_nothing (short_line inner) text [] refl) refl got taken)
+      (text, reading text text 1 awaited.Version None line left [] (read_nothing (short_line inner) text [] refl) refl got taken)
 
-  module _ (text rest : List ℕ) (n : ℕ) (s : Stage) (checker : Option C) (line : List ℕ) (left : Option (List ℕ))
+  module _ (text rest : List ℕ) (n : ℕ) (s : Awaited) (checker : Option C) (line : List ℕ) (left : Option (List ℕ))
       (r : IsReading text rest n s checker line left) where
     at_part : (part : List ℕ) (more : List (List ℕ)) → parts rest ≡ part ∷ more → IsLineAt (short_line inner) text n s r.asked part more
     at_part part more cut = record {
@@ -89,7 +89,7 @@ module _ {A E C : Type 0} (inner : Lines A) (rules : Rules A E) (layout_of : C �
           ap parts (r.cut ∙ ap (λ l. l ++ r.behind) whole ∙ append_assoc t (10 ∷ []) r.behind)
           ∙ parts_line t r.behind (whole_line line (Some rest) left r.got t whole).0
 
-      goes_on : (next : Stage) (one : Option A) (new : Option C) (line' : List ℕ) (left' : Option (List ℕ)) → inner s t ≡ Ok (next, one)
+      goes_on : (next : Awaited) (one : Option A) (new : Option C) (line' : List ℕ) (left' : Option (List ℕ)) → inner s t ≡ Ok (next, one)
           → TellsAll rules after one checker new → Consumes left left' line' → IsLineRead line' left left'
           → (rest' : List ℕ) × IsReading text rest' (n + 1) next new line' left'
       goes_on next one new line' left' given tells taken got =
@@ -102,18 +102,19 @@ module _ {A E C : Type 0} (inner : Lines A) (rules : Rules A E) (layout_of : C �
                 (subst (λ o. Consumes o left' line') r.left_is taken),
           )
 
-      stops : (next : Stage) (one : A) (stop : Stop) (layout : Layout) (c : C) (finding : Finding) → inner s t ≡ Ok (next, Some one) → stop.line ≡ n
-          → layout_of c ≡ layout → next ≡ stage.Commands layout
-          → ((h : List E) → HasTold after checker h → StopsAmong rules layout h (rules.tells one) (after c) stop.cause)
+      stops : (next : Awaited) (one : A) (violation : Violation) (layout : Layout) (c : C) (finding : Finding) → inner s t ≡ Ok (next, Some one)
+          → violation.line ≡ n
+          → layout_of c ≡ layout → next ≡ awaited.Commands layout
+          → ((h : List E) → HasTold after checker h → ViolatesAmong rules layout h (rules.tells one) (after c) violation.cause)
           → ((h : List E) → after c h → rules.IsLegal (layout_of c) h)
-          → ((h : List E) → after c h → SaysOf rules (verdict_of layout h (Some stop)) finding) → Finds (short_line inner) rules text finding
-      stops next one stop layout c finding given here same goes among legal says =
+          → ((h : List E) → after c h → SaysOf rules (verdict_of layout h (Some violation)) finding) → Finds (short_line inner) rules text finding
+      stops next one violation layout c finding given here same goes among legal says =
           let m = among (flat_map rules.tells r.asked) r.told in
           let events = flat_map rules.tells r.asked ++ m.first in
           let P : ℕ → Type 0 = λ k. IsLineAt (short_line inner) text k s r.asked t (parts r.behind) in
           let Q : Layout → Type 0 = λ l. rules.IsLegal l events in
           record {
-            verdict = verdict_of layout events (Some stop);
+            verdict = verdict_of layout events (Some violation);
             has = record {
               reached = s;
               asked = r.asked;
@@ -221,7 +222,7 @@ module _ {A E C : Type 0} (inner : Lines A) (rules : Rules A E) (layout_of : C �
                 }
 
   -- the same, where the bytes are known
-  module _ (known : Option (List ℕ)) (n : ℕ) (s : Stage) (checker : Option C) (line : List ℕ) (left : Option (List ℕ)) where
+  module _ (known : Option (List ℕ)) (n : ℕ) (s : Awaited) (checker : Option C) (line : List ℕ) (left : Option (List ℕ)) where
     pub if_known : (P : List ℕ → Type 0) → Reads known n s checker line left
         → ((text rest : List ℕ) → IsReading text rest n s checker line left → P text) → IfSome known P
     if_known P reads all = by_known known reads
@@ -230,26 +231,26 @@ module _ {A E C : Type 0} (inner : Lines A) (rules : Rules A E) (layout_of : C �
         by_known None r = tt
         by_known (Some text) r = all text r.0 r.1
 
-    pub reads_on : (reached next : Stage) (one : Option A) (new : Option C) (t line' : List ℕ) (left' : Option (List ℕ)) → line ≡ t ++ 10 ∷ []
+    pub reads_on : (reached next : Awaited) (one : Option A) (new : Option C) (t line' : List ℕ) (left' : Option (List ℕ)) → line ≡ t ++ 10 ∷ []
         → inner s t ≡ Ok (reached, one) → next ≡ reached → TellsAll rules after one checker new → Consumes left left' line' → IsLineRead line' left left'
         → Reads known n s checker line left → Reads known (n + 1) next new line' left'
     reads_on reached next one new t line' left' whole given goes tells taken got reads =
-        let given : inner s t ≡ Ok (next, one) = given ∙ ap (λ (q : Stage). Ok (q, one)) (sym goes) in
+        let given : inner s t ≡ Ok (next, one) = given ∙ ap (λ (q : Awaited). Ok (q, one)) (sym goes) in
         if_known (λ text. (rest' : List ℕ) × IsReading text rest' (n + 1) next new line' left') reads
         (λ text rest r. goes_on text rest n s checker line left r t whole next one new line' left' given tells taken got)
 
-    pub reads_stop : (next : Stage) (asked : Option A) (stop : Stop) (layout : Layout) (new : Option C) (finding : Finding) (t : List ℕ)
-        → line ≡ t ++ 10 ∷ [] → inner s t ≡ Ok (next, asked) → stop.line ≡ n
-        → ComesTo rules layout_of after next checker asked (OutcomeStop layout stop.cause) new
+    pub reads_violation : (next : Awaited) (asked : Option A) (violation : Violation) (layout : Layout) (new : Option C) (finding : Finding) (t : List ℕ)
+        → line ≡ t ++ 10 ∷ [] → inner s t ≡ Ok (next, asked) → violation.line ≡ n
+        → ComesTo rules layout_of after next checker asked (OutcomeViolation layout violation.cause) new
         → ((c : C) (h : List E) → after c h → rules.IsLegal (layout_of c) h)
-        → ((h : List E) → HasTold after new h → SaysOf rules (verdict_of layout h (Some stop)) finding)
+        → ((h : List E) → HasTold after new h → SaysOf rules (verdict_of layout h (Some violation)) finding)
         → Reads known n s checker line left → IfSome known (λ text. Finds (short_line inner) rules text finding)
-    reads_stop next asked stop layout None finding t whole given here comes legal says reads = absurd comes.1
-    reads_stop next asked stop layout (Some c) finding t whole given here comes legal says reads =
+    reads_violation next asked violation layout None finding t whole given here comes legal says reads = absurd comes.1
+    reads_violation next asked violation layout (Some c) finding t whole given here comes legal says reads =
         let one = comes.1.1 in
         let asks = given ∙ ap (λ (o : Option A). Ok (next, o)) one.1 in
         if_known (λ text. Finds (short_line inner) rules text finding) reads (λ text rest r. stops text rest n s checker line left r t whole next one.0
-        stop layout c finding asks here comes.1.0 comes.0 one.2 (legal c) says)
+        violation layout c finding asks here comes.1.0 comes.0 one.2 (legal c) says)
 
     module _ (begins : (l : Layout) → rules.IsLegal l []) (legal : (c : C) (h : List E) → after c h → rules.IsLegal (layout_of c) h)
         (made : IsMadeAt layout_of s checker) (reads : Reads known n s checker line left) where

@@ -1,6 +1,6 @@
 -- The line of an event, read back.
 use Rattle.wq_recording.proofs.Common.{◌≡◌, ℕ, ◌-◌, ◌<◌, ◌≤◌, Bool, true, false, List, [], ◌∷◌, ◌++◌, length, Option, Some, None, Result, Ok, refl, sym, ap, subst, ◌∙◌}
-use Rattle.wq_recording.proofs.Common.{arith, nat_le, nat_lt, append_assoc, Layout, FaultKind, Stage}
+use Rattle.wq_recording.proofs.Common.{arith, nat_le, nat_lt, append_assoc, Layout, FaultKind, Awaited}
 use Rattle.std.specs.Prelude.{◌&&◌, codes, if◌then◌else◌, option_map}
 use Rattle.std.specs.Fmt.{decimal}
 use Rattle.std.specs.Str.{all_ascii_digits, bytes_eq}
@@ -16,7 +16,7 @@ use Rattle.wq_meaning.specs.Names.{name_of, named}
 use Rattle.wq_meaning.specs.Replies.{why_text}
 use Rattle.wq_text.proofs.Decimal.{reads_decimals}
 use Rattle.wq_text.specs.declared.fault.FaultKind.TheVariants as kind
-use Rattle.wq_text.specs.declared.header.Stage.TheVariants as stage
+use Rattle.wq_text.specs.declared.header.Awaited.TheVariants as awaited
 use Rattle.wq_text.specs.Arguments.{below, between, item}
 use Rattle.wq_text.specs.Fault.{◌>>=◌, need, found, of_one, of_two}
 use Rattle.wq_text.specs.Header.{is_header, header_line_gives}
@@ -112,24 +112,24 @@ module _ (l : Layout) (k : ℕ) where
       (decimal_word k (omega (arith, lt, l.in_limits.0.1)), below_reads kind.Item l.items k lt (omega (arith, l.in_limits.0.1)))
 
 -- a line that holds no LF, and what it gives
-abbrev pub IsWritten : Stage → Stage → Option LineEvents → List ℕ → Type 0
+abbrev pub IsWritten : Awaited → Awaited → Option LineEvents → List ℕ → Type 0
 IsWritten s next one t = HasNoLf t × (history_line s t ≡ Ok (next, one))
 
 module _ (l : Layout) where
   abbrev IsLineOf : List ℕ → Event → Type 0
-  IsLineOf t e = IsWritten (stage.Commands l) (stage.Commands l) (Some (alone e)) t
+  IsLineOf t e = IsWritten (awaited.Commands l) (awaited.Commands l) (Some (alone e)) t
 
-  abbrev asked : LineEvents → Stage × Option LineEvents
-  asked one = (stage.Commands l, Some one)
+  abbrev asked : LineEvents → Awaited × Option LineEvents
+  asked one = (awaited.Commands l, Some one)
 
   line_tells : (w : List ℕ) (ws : List (List ℕ)) (t : HistoryWord) (e : Event) → IsShortWord w → AreShortWords ws → length ws ≤ 3
       → is_header w ≡ false → history_word_at w ws ≡ Some t → events_given l t w (without_first ws) ≡ Ok (alone e) → IsLineOf (spaced w ws) e
   line_tells w ws t e short all few first name gives = (
     spaced_no_lf w ws short all,
-    spaced_line w ws short all history_grammar (stage.Commands l) few refl
+    spaced_line w ws short all history_grammar (awaited.Commands l) few refl
         ∙ ap
-        (λ b. if b then of_one (λ (next : Stage). (next, None)) (header_line_gives history_grammar.names_seats history_grammar.most (stage.Commands l) w ws)
-        else asking_line history_grammar (stage.Commands l) w ws) first
+        (λ b. if b then of_one (λ (next : Awaited). (next, None)) (header_line_gives history_grammar.names_seats history_grammar.most (awaited.Commands l) w ws)
+        else asking_line history_grammar (awaited.Commands l) w ws) first
         ∙ ap (λ (o : Option HistoryWord). found kind.Word o >>= λ n. of_one asked (events_given l n w (without_first ws))) name
         ∙ ap (of_one asked) gives,
   )

@@ -1,6 +1,6 @@
 -- The text of a history, read back.
 use Rattle.wq_recording.proofs.Common.{◌≡◌, ℕ, ◌+◌, Bool, false, List, [], ◌∷◌, ◌++◌, map, All, Option, Some, None, Result, Ok, Err, refl, sym, ap, subst, ◌∙◌}
-use Rattle.wq_recording.proofs.Common.{arith, flat_map, option_to_list, append_assoc, append-nil, Layout, FaultKind, ScriptError, Stage, parts, Verdict, IsLineAt}
+use Rattle.wq_recording.proofs.Common.{arith, flat_map, option_to_list, append_assoc, append-nil, Layout, FaultKind, ScriptError, Awaited, parts, Verdict, IsLineAt}
 use Rattle.std.specs.Prelude.{codes, MatchBool}
 use Rattle.std.specs.Fmt.{decimal}
 use Rattle.std.proofs.lemmas.List.Elements.{All-nil, All-cons, All-head, All-tail, All-append}
@@ -12,7 +12,7 @@ use Rattle.wq_meaning.specs.Report.{line, count_line}
 use Rattle.wq_text.proofs.Limited.{limited_ok}
 use Rattle.wq_text.proofs.Texts.{IsReadTo, read_nothing, read_more}
 use Rattle.wq_text.specs.declared.fault.FaultKind.TheVariants as kind
-use Rattle.wq_text.specs.declared.header.Stage.TheVariants as stage
+use Rattle.wq_text.specs.declared.header.Awaited.TheVariants as awaited
 use Rattle.wq_text.specs.Fault.{◌>>=◌, of_one}
 use Rattle.wq_text.specs.Header.{awaits, behind_items, header_gives, limited}
 use Rattle.wq_recording.specs.declared.line_events.LineEvents.{LineEvents}
@@ -45,68 +45,68 @@ module _ (l : Layout) where
   abbrev l_senders : Layout
   l_senders = layout_of_numbers l.items 1 l.senders (l.in_limits.0, (omega arith, omega arith), l.in_limits.2)
 
-  abbrev alone_stage : Stage → Stage × Option LineEvents
-  alone_stage next = (next, None)
+  abbrev alone_awaited : Awaited → Awaited × Option LineEvents
+  alone_awaited next = (next, None)
 
-  items_line : IsWritten stage.Items (stage.Senders l_items) None (counted (codes "items") l.items)
+  items_line : IsWritten awaited.Items (awaited.Senders l_items) None (counted (codes "items") l.items)
   unfolding awaits header_gives behind_items
   items_line =
       let word = literal (codes "items") refl in
       let number = decimal_word l.items (omega (arith, l.in_limits.0.1)) in (
         spaced_no_lf (codes "items") (decimal l.items ∷ []) word (number, tt),
-        spaced_line (codes "items") (decimal l.items ∷ []) word (number, tt) history_grammar stage.Items (omega arith) refl
-            ∙ ap (λ (r : Result ℕ FaultKind). of_one alone_stage (r >>= λ n. of_one stage.Senders (limited kind.Items n 1 1)))
+        spaced_line (codes "items") (decimal l.items ∷ []) word (number, tt) history_grammar awaited.Items (omega arith) refl
+            ∙ ap (λ (r : Result ℕ FaultKind). of_one alone_awaited (r >>= λ n. of_one awaited.Senders (limited kind.Items n 1 1)))
             (between_reads kind.Items 1 65536 l.items l.in_limits.0.0 l.in_limits.0.1 (omega arith))
-            ∙ ap (λ (r : Result Layout FaultKind). of_one alone_stage (of_one stage.Senders r)) (limited_ok kind.Items l_items l.items 1 1 refl refl refl),
+            ∙ ap (λ (r : Result Layout FaultKind). of_one alone_awaited (of_one awaited.Senders r)) (limited_ok kind.Items l_items l.items 1 1 refl refl refl),
       )
 
-  senders_line : IsWritten (stage.Senders l_items) (stage.Barriers l_senders) None (counted (codes "senders") l.senders)
+  senders_line : IsWritten (awaited.Senders l_items) (awaited.Barriers l_senders) None (counted (codes "senders") l.senders)
   unfolding awaits header_gives
   senders_line =
       let word = literal (codes "senders") refl in
       let number = decimal_word l.senders (omega (arith, l.in_limits.2.1)) in (
         spaced_no_lf (codes "senders") (decimal l.senders ∷ []) word (number, tt),
-        spaced_line (codes "senders") (decimal l.senders ∷ []) word (number, tt) history_grammar (stage.Senders l_items) (omega arith) refl
-            ∙ ap (λ (r : Result ℕ FaultKind). of_one alone_stage (of_one stage.Barriers (r >>= λ n. limited kind.Senders l.items 1 n)))
+        spaced_line (codes "senders") (decimal l.senders ∷ []) word (number, tt) history_grammar (awaited.Senders l_items) (omega arith) refl
+            ∙ ap (λ (r : Result ℕ FaultKind). of_one alone_awaited (of_one awaited.Barriers (r >>= λ n. limited kind.Senders l.items 1 n)))
             (between_reads kind.Senders 1 64 l.senders l.in_limits.2.0 l.in_limits.2.1 (omega arith))
-            ∙ ap (λ (r : Result Layout FaultKind). of_one alone_stage (of_one stage.Barriers r))
+            ∙ ap (λ (r : Result Layout FaultKind). of_one alone_awaited (of_one awaited.Barriers r))
             (limited_ok kind.Senders l_senders l.items 1 l.senders refl refl refl),
       )
 
-  barriers_line : IsWritten (stage.Barriers l_senders) (stage.Commands l) None (counted (codes "barriers") l.barriers)
+  barriers_line : IsWritten (awaited.Barriers l_senders) (awaited.Commands l) None (counted (codes "barriers") l.barriers)
   unfolding awaits header_gives
   barriers_line =
       let word = literal (codes "barriers") refl in
       let number = decimal_word l.barriers (omega (arith, l.in_limits.1.1)) in (
         spaced_no_lf (codes "barriers") (decimal l.barriers ∷ []) word (number, tt),
-        spaced_line (codes "barriers") (decimal l.barriers ∷ []) word (number, tt) history_grammar (stage.Barriers l_senders) (omega arith) refl
-            ∙ ap (λ (r : Result ℕ FaultKind). of_one alone_stage (of_one stage.Commands (r >>= λ n. limited kind.Barriers l.items n l.senders)))
+        spaced_line (codes "barriers") (decimal l.barriers ∷ []) word (number, tt) history_grammar (awaited.Barriers l_senders) (omega arith) refl
+            ∙ ap (λ (r : Result ℕ FaultKind). of_one alone_awaited (of_one awaited.Commands (r >>= λ n. limited kind.Barriers l.items n l.senders)))
             (between_reads kind.Barriers 1 16 l.barriers l.in_limits.1.0 l.in_limits.1.1 (omega arith))
-            ∙ ap (λ (r : Result Layout FaultKind). of_one alone_stage (of_one stage.Commands r))
+            ∙ ap (λ (r : Result Layout FaultKind). of_one alone_awaited (of_one awaited.Commands r))
             (limited_ok kind.Barriers l l.items l.barriers l.senders refl refl refl),
       )
 
-version_line : IsWritten stage.Version stage.Items None (codes "history 1")
+version_line : IsWritten awaited.Version awaited.Items None (codes "history 1")
 version_line = (spaced_no_lf (codes "history") (codes "1" ∷ []) (literal (codes "history") refl) (literal (codes "1") refl, tt), refl)
 
 -- a line further
 module _ (text : List ℕ) where
-  abbrev Reads : List ℕ → ℕ → Stage → List LineEvents → Type 0
+  abbrev Reads : List ℕ → ℕ → Awaited → List LineEvents → Type 0
   Reads rest n s asked = IsReadTo history_line text rest n s asked
 
   cut : (t rest : List ℕ) → HasNoLf t → parts (line t ++ rest) ≡ t ∷ parts rest
   cut t rest none = ap parts (append_assoc t (10 ∷ []) rest) ∙ parts_line t rest none
 
-  step : (t rest : List ℕ) (n : ℕ) (s next : Stage) (one : Option LineEvents) (asked : List LineEvents) → IsWritten s next one t
+  step : (t rest : List ℕ) (n : ℕ) (s next : Awaited) (one : Option LineEvents) (asked : List LineEvents) → IsWritten s next one t
       → Reads (line t ++ rest) n s asked → Reads rest (n + 1) next (asked ++ option_to_list one)
   step t rest n s next one asked written read =
       read_more history_line text (line t ++ rest) t rest n s next asked (asked ++ option_to_list one) one read (cut t rest written.0) written.1 refl
 
-  all_read : (l : Layout) (h : List Event) (n : ℕ) (asked : List LineEvents) → All (IsEventOf l) h → Reads (event_lines l h) n (stage.Commands l) asked
-      → (m : ℕ) × Reads [] m (stage.Commands l) (asked ++ map alone h)
-  all_read l [] n asked of read = (n, subst (λ (a : List LineEvents). Reads [] n (stage.Commands l) a) (sym (append-nil asked)) read)
+  all_read : (l : Layout) (h : List Event) (n : ℕ) (asked : List LineEvents) → All (IsEventOf l) h → Reads (event_lines l h) n (awaited.Commands l) asked
+      → (m : ℕ) × Reads [] m (awaited.Commands l) (asked ++ map alone h)
+  all_read l [] n asked of read = (n, subst (λ (a : List LineEvents). Reads [] n (awaited.Commands l) a) (sym (append-nil asked)) read)
   all_read l (e ∷ h) n asked of read =
-      let s = stage.Commands l in
+      let s = awaited.Commands l in
       let one = step (event_text l e) (event_lines l h) n s s (Some (alone e)) asked (written_event l e (All-head (IsEventOf l) e h of)) read in
       let more = all_read l h (n + 1) (asked ++ alone e ∷ []) (All-tail (IsEventOf l) e h of) one in
       (more.0, subst (λ (a : List LineEvents). Reads [] more.0 s a) (append_assoc asked (alone e ∷ []) (map alone h)) more.1)
@@ -133,16 +133,17 @@ module _ (l : Layout) (h : List Event) where
   pub no_trace : is_trace (history_text l h) ≡ false
   no_trace = ap begins_as_trace first_part ∙ followed (codes "history 1") (parts behind_version) (some_part behind_version)
 
-  pub text_told : All (IsEventOf l) h → (n : ℕ) × IsLineAt history_line (history_text l h) n (stage.Commands l) (map alone h) [] []
+  pub text_told : All (IsEventOf l) h → (n : ℕ) × IsLineAt history_line (history_text l h) n (awaited.Commands l) (map alone h) [] []
   text_told of =
       let text = history_text l h in
       let start = read_nothing history_line text [] refl in
-      let P : List ℕ → Type 0 = λ rest. IsReadTo history_line text rest 1 stage.Version [] in
-      let one = step text (codes "history 1") behind_version 1 stage.Version stage.Items None [] version_line (subst P lines_are start) in
-      let two = step text (counted (codes "items") l.items) _ 2 stage.Items (stage.Senders (l_items l)) None [] (items_line l) one in
-      let three = step text (counted (codes "senders") l.senders) _ 3 (stage.Senders (l_items l)) (stage.Barriers (l_senders l)) None [] (senders_line l) two in
+      let P : List ℕ → Type 0 = λ rest. IsReadTo history_line text rest 1 awaited.Version [] in
+      let one = step text (codes "history 1") behind_version 1 awaited.Version awaited.Items None [] version_line (subst P lines_are start) in
+      let two = step text (counted (codes "items") l.items) _ 2 awaited.Items (awaited.Senders (l_items l)) None [] (items_line l) one in
+      let three = step text (counted (codes "senders") l.senders) _ 3 (awaited.Senders (l_items l)) (awaited.Barriers (l_senders l)) None []
+      (senders_line l) two in
       let barriers = counted (codes "barriers") l.barriers in
-      let four = step text barriers (event_lines l h) 4 (stage.Barriers (l_senders l)) (stage.Commands l) None [] (barriers_line l) three in
+      let four = step text barriers (event_lines l h) 4 (awaited.Barriers (l_senders l)) (awaited.Commands l) None [] (barriers_line l) three in
       let all = all_read text l h 5 [] of four in
       (all.0, record { before = all.1.before; split = all.1.split; leads = all.1.leads; number = all.1.number })
 
@@ -160,7 +161,7 @@ legal_as_text l h legal =
     let told = text_told l h (of_layout l h legal) in
     record {
       number = told.0;
-      reached = stage.Commands l;
+      reached = awaited.Commands l;
       asked = map alone h;
       at = told.1;
       whole = refl;

@@ -1,6 +1,6 @@
 -- Lines that are written word by word, read back.
 use Rattle.wq_recording.proofs.Common.{◌≡◌, ◌≢◌, ℕ, ◌+◌, ◌<◌, ◌≤◌, Bool, true, false, List, [], ◌∷◌, ◌++◌, length, All, None, Ok, refl, ap}
-use Rattle.wq_recording.proofs.Common.{◌∙◌, arith, nat_le, nat_lt, length-append, Stage, Grammar, line_gives, recording_line}
+use Rattle.wq_recording.proofs.Common.{◌∙◌, arith, nat_le, nat_lt, length-append, Awaited, Grammar, line_gives, recording_line}
 use Rattle.std.specs.Prelude.{◌&&◌, ◌*◌, if◌then◌else◌}
 use Rattle.std.specs.List.{list_all}
 use Rattle.std.specs.Fmt.{decimal}
@@ -127,8 +127,8 @@ module _ (w : List ℕ) (ws : List (List ℕ)) (short : IsShortWord w) (all : Ar
   pub spaced_no_lf : HasNoLf (spaced w ws)
   spaced_no_lf k d lt = plain_not_lf _ (AllPass-from_list_all is_plain (spaced w ws) (all_plain w ws short all) k d lt)
 
-  -- what such a line gives, at a stage behind the version
-  module _ {N A : Type 0} (g : Grammar N A) (s : Stage) where
+  -- what such a line gives, where a line behind the version is awaited
+  module _ {N A : Type 0} (g : Grammar N A) (s : Awaited) where
     plain_gives : plain_line_gives g s (spaced w ws) ≡ by_first_word g s w ws
     unfolding plain_line_gives words_give
     plain_gives =

@@ -10,7 +10,7 @@ use Rattle.wq_recording.specs.declared.finding.Finding.{Finding}
 use Rattle.wq_recording.specs.History.{history_grammar}
 use Rattle.wq_recording.specs.HistoryReport.{history_rules}
 use Rattle.wq_recording.specs.Lines.{most_line_bytes}
-use Rattle.wq_recording.specs.declared.stop.Stop.{Stop}
+use Rattle.wq_recording.specs.declared.violation.Violation.{Violation}
 use Rattle.wq_recording.specs.Trace.{trace_grammar}
 use Rattle.wq_recording.specs.TraceReport.{trace_rules}
 use Rattle.wq_recording.specs.Verdict.{is_short, recording_line, IsRefusedText}
@@ -40,10 +40,10 @@ IsFoundOf text finding =
 abbrev pub IsRefusedFor : List ℕ → ScriptError → Type 0
 IsRefusedFor text e = MatchBool (is_trace text) (IsRefusedText trace_line trace_rules text e) (IsRefusedText history_line history_rules text e)
 
--- the text was read to its end or, where there is a stop, through its line and no further
-abbrev pub IsReadThrough : Option Stop → List ℕ → List ℕ → Type 0
+-- the text was read to its end or, where there is a violation, through its line and no further
+abbrev pub IsReadThrough : Option Violation → List ℕ → List ℕ → Type 0
 IsReadThrough None text left = left ≡ []
-IsReadThrough (Some stop) text left = parts left ≡ drop stop.line (parts text)
+IsReadThrough (Some violation) text left = parts left ≡ drop violation.line (parts text)
 
 -- what is left of a line and the parts behind it once the line was read: those parts, where its LF is among its first 4,097 bytes,
 -- and else all that stands behind these bytes

@@ -4,7 +4,7 @@ use Rattle.wq_words.specs.declared.event.Event.{Event}
 use Rattle.wq_words.specs.declared.layout.Layout.{Layout}
 use Rattle.wq_words.specs.Legal.{IsLegal}
 use Rattle.wq_text.specs.declared.fault.ScriptError.{ScriptError}
-use Rattle.wq_text.specs.declared.header.Stage.TheVariants as stage
+use Rattle.wq_text.specs.declared.header.Awaited.TheVariants as awaited
 use Rattle.wq_recording.specs.declared.finding.Finding.{Finding}
 use Rattle.wq_recording.specs.Checking.{history_line, IsFoundOf, IsRefusedFor}
 use Rattle.wq_recording.specs.History.{alone, IsEventOf}
@@ -17,13 +17,13 @@ use Rattle.wq_recording.specs.VerdictText.{verdict_of, SaysOf}
 abbrev pub TellsItsEvent : Type 0
 TellsItsEvent =
     (layout : Layout) (e : Event) → IsEventOf layout e
-    → history_line (stage.Commands layout) (event_text layout e) ≡ Ok (stage.Commands layout, Some (alone e))
+    → history_line (awaited.Commands layout) (event_text layout e) ≡ Ok (awaited.Commands layout, Some (alone e))
 
 -- all lines of the text are whole and without a fault; they name the layout and tell the events, one each, in order
 abbrev pub TellsItsEvents : Type 0
 TellsItsEvents =
     (layout : Layout) (h : List Event) → All (IsEventOf layout) h
-    → (n : ℕ) × IsLineAt history_line (history_text layout h) n (stage.Commands layout) (map alone h) [] []
+    → (n : ℕ) × IsLineAt history_line (history_text layout h) n (awaited.Commands layout) (map alone h) [] []
 
 -- where the events are legal, so is the text
 abbrev pub IsLegalAsText : Type 0

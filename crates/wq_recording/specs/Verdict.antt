@@ -7,14 +7,14 @@ use Rattle.wq_check.specs.declared.cause.Cause.{Cause}
 use Rattle.wq_text.specs.declared.fault.FaultKind.{FaultKind}
 use Rattle.wq_text.specs.declared.fault.FaultKind.TheVariants as kind
 use Rattle.wq_text.specs.declared.fault.ScriptError.{ScriptError}
-use Rattle.wq_text.specs.declared.header.Stage.{Stage}
-use Rattle.wq_text.specs.declared.header.Stage.TheVariants as stage
+use Rattle.wq_text.specs.declared.header.Awaited.{Awaited}
+use Rattle.wq_text.specs.declared.header.Awaited.TheVariants as awaited
 use Rattle.wq_text.specs.Fault.{◌>>=◌, need}
 use Rattle.wq_text.specs.Header.{layout_at}
 use Rattle.wq_text.specs.Line.{Grammar, Lines, line_gives}
 use Rattle.wq_text.specs.Text.{LinesLead, end_fault}
 use Rattle.wq_text.specs.Word.{parts}
-use Rattle.wq_recording.specs.declared.stop.Stop.{Stop}
+use Rattle.wq_recording.specs.declared.violation.Violation.{Violation}
 use Rattle.wq_recording.specs.Lines.{most_line_bytes}
 
 -- What one kind of recording has of its own: the events that a line tells, which events are legal, why one may not come after
@@ -40,29 +40,30 @@ abbrev pub recording_line : {N A : Type 0} → Grammar N A → Lines A
 recording_line g = short_line (line_gives g)
 
 -- what is wrong with what no LF ends, if anything
-abbrev pub last_fault : Stage → List ℕ → Option FaultKind
+abbrev pub last_fault : Awaited → List ℕ → Option FaultKind
 last_fault s [] = end_fault s
 last_fault s (b ∷ bs) = Some (if is_short (b ∷ bs) then kind.Cut else kind.Size)
 
--- Line n of a text, counted from 1, is this one, with these parts behind it. No line before it has a fault; they lead to a stage
--- and ask for these in turn.
-pub record IsLineAt {A : Type 0} (gives : Lines A) (text : List ℕ) (n : ℕ) (s : Stage) (asked : List A) (line : List ℕ) (behind : List (List ℕ)) : Type 0 where
+-- Line n of a text, counted from 1, is this one, with these parts behind it. No line before it has a fault; behind them
+-- s is awaited, and they ask for these in turn.
+pub record IsLineAt {A : Type 0} (gives : Lines A) (text : List ℕ) (n : ℕ) (s : Awaited) (asked : List A) (line : List ℕ)
+    (behind : List (List ℕ)) : Type 0 where
   pub before : List (List ℕ)
   pub split : parts text ≡ before ++ line ∷ behind
-  pub leads : LinesLead gives stage.Version before s asked
+  pub leads : LinesLead gives awaited.Version before s asked
   pub number : n ≡ 1 + length before
 
--- the events that are legal, of all or of those before the stop
+-- the events that are legal, of all or of those before the violation
 pub record Verdict (E : Type 0) : Type 0 where
   pub layout : Layout
   pub events : List E
-  pub stop : Option Stop
+  pub violation : Option Violation
 
 module _ {A E : Type 0} (gives : Lines A) (rules : Rules A E) (text : List ℕ) where
   -- each line is whole and has no fault, with them the header is complete, and all that they tell is legal
   pub record IsLegalText (layout : Layout) (events : List E) : Type 0 where
     pub number : ℕ
-    pub reached : Stage
+    pub reached : Awaited
     pub asked : List A
     pub at : IsLineAt gives text number reached asked [] []
     pub whole : layout_at reached ≡ Some layout
@@ -70,14 +71,14 @@ module _ {A E : Type 0} (gives : Lines A) (rules : Rules A E) (text : List ℕ) 
     pub legal : rules.IsLegal layout events
 
   -- the line is whole and has no fault, and its first event that is not legal has this cause
-  pub record StopsWith (layout : Layout) (events : List E) (stop : Stop) : Type 0 where
-    pub reached : Stage
+  pub record IsFirstViolation (layout : Layout) (events : List E) (violation : Violation) : Type 0 where
+    pub reached : Awaited
     pub asked : List A
     pub line : List ℕ
     pub behind : List (List ℕ)
-    pub at : IsLineAt gives text stop.line reached asked line behind
+    pub at : IsLineAt gives text violation.line reached asked line behind
     pub ended : behind ≢ []
-    pub next : Stage
+    pub next : Awaited
     pub one : A
     pub given : gives reached line ≡ Ok (next, Some one)
     pub whole : layout_at next ≡ Some layout
@@ -87,16 +88,16 @@ module _ {A E : Type 0} (gives : Lines A) (rules : Rules A E) (text : List ℕ) 
     pub cut : rules.tells one ≡ first ++ event ∷ rest
     pub events_are : events ≡ flat_map rules.tells asked ++ first
     pub legal : rules.IsLegal layout events
-    pub caused : rules.HasCause layout events event stop.cause
+    pub caused : rules.HasCause layout events event violation.cause
 
   -- the fault k of a line that is followed by others, or of what no LF ends
-  abbrev pub HasFaultAt : Stage → List ℕ → List (List ℕ) → FaultKind → Type 0
+  abbrev pub HasFaultAt : Awaited → List ℕ → List (List ℕ) → FaultKind → Type 0
   HasFaultAt s line (next ∷ more) k = gives s line ≡ Err k
   HasFaultAt s rest [] k = last_fault s rest ≡ Some k
 
   -- the first faulty line and its first fault, where all that the lines before tell is legal
   pub record IsRefusedText (e : ScriptError) : Type 0 where
-    pub reached : Stage
+    pub reached : Awaited
     pub asked : List A
     pub line : List ℕ
     pub behind : List (List ℕ)
@@ -106,7 +107,7 @@ module _ {A E : Type 0} (gives : Lines A) (rules : Rules A E) (text : List ℕ) 
 
   -- what is said of the text
   abbrev pub HasVerdict : Result (Verdict E) ScriptError → Type 0
-  HasVerdict (Ok v) = MatchOption v.stop (IsLegalText v.layout v.events) (StopsWith v.layout v.events)
+  HasVerdict (Ok v) = MatchOption v.violation (IsLegalText v.layout v.events) (IsFirstViolation v.layout v.events)
   HasVerdict (Err e) = IsRefusedText e
 
 -- one thing is said of a text at most
@@ -116,7 +117,7 @@ HasOneVerdict {A} {E} gives rules =
 
 -- the line that decides, where the text is not legal or refused
 abbrev pub deciding_line : {E : Type 0} → Result (Verdict E) ScriptError → Option ℕ
-deciding_line (Ok v) = option_map (λ (s : Stop). s.line) v.stop
+deciding_line (Ok v) = option_map (λ (s : Violation). s.line) v.violation
 deciding_line (Err e) = Some e.line
 
 -- where that line is whole, what stands behind it changes nothing

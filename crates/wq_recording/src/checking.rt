@@ -37,7 +37,8 @@ fn is_trace(line: &[u8]) -> bool
 pub fn check<B: BufRead>(alloc: Global, reader: &mut B) -> Result<Finding, CheckError>
     ensures found { IfOk result (λ finding. IfSome (B.remaining reader.old) (λ text. IsFoundOf text finding)) }
     ensures refused { IfErr result (λ error. IfSome (B.remaining reader.old) (λ text. IfTextRefused error (IsRefusedFor text))) }
-    ensures read { IfOk result (λ finding. IfSome (B.remaining reader.old) (λ text. IsSomeAnd (B.remaining reader.new) (IsReadThrough finding.stop text))) }
+    ensures read { IfOk result (λ finding. IfSome (B.remaining reader.old)
+        (λ text. IsSomeAnd (B.remaining reader.new) (IsReadThrough finding.violation text))) }
     ensures stops { IfErr result (λ error. IfSome (B.remaining reader.old)
         (λ text. IfTextRefused error (λ e. IsSomeAnd (B.remaining reader.new) (IsReadToFault e text)))) }
 {

@@ -2,8 +2,8 @@
 ghost use Rattle.std.specs.Prelude.{◌≡◌, [], ℕ, List, Option, None, Some, Ok, IfOk, IfErr, IfSome, IsSomeAnd};
 ghost use Rattle.std.specs.Io.KnownBytes.{Consumes};
 ghost use Rattle.wq_text.specs.declared.fault.ParseError.TheVariants.{Memory, Refused};
-ghost use Rattle.wq_text.specs.declared.header.Stage.{Stage as Awaited};
-ghost use Rattle.wq_text.specs.declared.header.Stage.TheVariants.{Commands};
+ghost use Rattle.wq_text.specs.declared.header.Awaited.{Awaited as AwaitedLine};
+ghost use Rattle.wq_text.specs.declared.header.Awaited.TheVariants.{Commands};
 ghost use Rattle.wq_text.specs.Fault.{LineFailsAs};
 ghost use Rattle.wq_text.specs.Header.{layout_at};
 ghost use Rattle.wq_text.specs.Line.{line_gives};
@@ -20,22 +20,22 @@ use crate::error::CheckError;
 use crate::finding::Finding;
 use crate::lines::{LineOrRest, MOST_LINE_BYTES, line_or_rest, next_line};
 use crate::recording::Recording;
-use crate::stop::Stop;
 use crate::verdict_text::found;
+use crate::violation::Violation;
 use std::alloc::{AllocError, Global};
 use std::io;
 use std::io::{BufRead, ErrorKind};
 use wq_check::Cause;
-use wq_text::{FaultKind, LineError, ParseError, ScriptError, Stage, layout_at_end, read_line};
+use wq_text::{Awaited, FaultKind, LineError, ParseError, ScriptError, layout_at_end, read_line};
 use wq_words::Layout;
 
 // What a line without a fault comes to.
 #[derive(Drop)]
 pub(crate) enum LineOutcome {
-    // The stage behind it.
-    On(Stage),
+    // What is awaited behind it.
+    On(Awaited),
     // Its first event that is not legal has this cause; the checker was told those before.
-    Stop(Layout, Cause),
+    Violation(Layout, Cause),
 }
 
 // Tells a checker of this layout what is asked for.
@@ -49,15 +49,15 @@ fn tell_asked<L: Recording>(
     ensures { ComesTo L.rules L.layout_of L.is_after (Commands layout) (Some checker.old) (Some asked) result (Some checker.new) }
 {
     match L::tell(checker, asked) {
-        Ok(()) => LineOutcome::On(Stage::Commands(layout)),
-        Err(cause) => LineOutcome::Stop(layout, cause),
+        Ok(()) => LineOutcome::On(Awaited::Commands(layout)),
+        Err(cause) => LineOutcome::Violation(layout, cause),
     }
 }
 
-// Tells what a line asks for, behind which the stage is `next`; the checker is made where there is none yet.
+// Tells what a line asks for, behind which `next` is awaited; the checker is made where there is none yet.
 fn tell<L: Recording>(
     alloc: Global,
-    next: Stage,
+    next: Awaited,
     checker: &mut Option<L::Checker>,
     asked: Option<L::Asked>,
 ) -> Result<LineOutcome, AllocError>
@@ -68,7 +68,7 @@ fn tell<L: Recording>(
     let Some(asked) = asked else {
         return Ok(LineOutcome::On(next));
     };
-    let Stage::Commands(layout) = next else {
+    let Awaited::Commands(layout) = next else {
         unreachable!();
     };
     match checker {
@@ -83,17 +83,17 @@ fn tell<L: Recording>(
 // What a line comes to.
 fn tell_line<L: Recording>(
     alloc: Global,
-    stage: Stage,
+    awaited: Awaited,
     checker: &mut Option<L::Checker>,
     line: &[u8],
 ) -> Result<LineOutcome, LineError>
-    requires sound { SoundAt L.grammar.most.senders L.fits stage [] }
-    requires made { IsMadeAt L.layout_of stage checker.old }
-    ensures told { IfOk result (λ told. (next : Awaited) × (one : Option L.Asked) × (line_gives L.grammar stage line.now ≡ Ok (next, one))
+    requires sound { SoundAt L.grammar.most.senders L.fits awaited [] }
+    requires made { IsMadeAt L.layout_of awaited checker.old }
+    ensures told { IfOk result (λ told. (next : AwaitedLine) × (one : Option L.Asked) × (line_gives L.grammar awaited line.now ≡ Ok (next, one))
         × SoundAt L.grammar.most.senders L.fits next [] × ComesTo L.rules L.layout_of L.is_after next checker.old one told checker.new) }
-    ensures fault { IfErr result (λ e. LineFailsAs e (line_gives L.grammar stage line.now)) }
+    ensures fault { IfErr result (λ e. LineFailsAs e (line_gives L.grammar awaited line.now)) }
 {
-    let (next, asked) = read_line::<L>(alloc, stage, line)?;
+    let (next, asked) = read_line::<L>(alloc, awaited, line)?;
     let told = tell::<L>(alloc, next, checker, asked)?;
     Ok(told)
 }
@@ -114,22 +114,22 @@ fn refusal(line: u64, error: LineError) -> CheckError
     }
 }
 
-// What is said of the events that were told, none where there is no checker yet, and of the stop behind them.
+// What is said of the events that were told, none where there is no checker yet, and of the violation behind them.
 fn found_so_far<L: Recording>(
     alloc: Global,
     layout: Layout,
     checker: &Option<L::Checker>,
-    stop: Option<Stop>,
+    violation: Option<Violation>,
 ) -> Result<Finding, CheckError>
-    ensures says { IfOk result (λ finding. (h : List L.Event) → HasTold L.is_after checker.now h → SaysOf L.rules (verdict_of layout h stop) finding) }
-    ensures stop { IfOk result (λ finding. finding.stop ≡ stop) }
+    ensures says { IfOk result (λ finding. (h : List L.Event) → HasTold L.is_after checker.now h → SaysOf L.rules (verdict_of layout h violation) finding) }
+    ensures violation { IfOk result (λ finding. finding.violation ≡ violation) }
     ensures memory { IfErr result (λ error. error ≡ Text Memory) }
 {
     match checker {
-        Some(checker) => found::<L>(alloc, layout, checker, stop),
+        Some(checker) => found::<L>(alloc, layout, checker, violation),
         None => {
             let checker = L::checker(alloc, layout)?;
-            found::<L>(alloc, layout, &checker, stop)
+            found::<L>(alloc, layout, &checker, violation)
         }
     }
 }
@@ -138,16 +138,16 @@ fn found_so_far<L: Recording>(
 fn last<L: Recording>(
     alloc: Global,
     number: u64,
-    stage: Stage,
+    awaited: Awaited,
     checker: &Option<L::Checker>,
     rest: &[u8],
 ) -> Result<Finding, CheckError>
-    requires { IsMadeAt L.layout_of stage checker.now }
+    requires { IsMadeAt L.layout_of awaited checker.now }
     ensures whole { IfOk result (λ _. rest.now ≡ []) }
-    ensures stop { IfOk result (λ finding. finding.stop ≡ None) }
-    ensures found { IfOk result (λ finding. (layout : Numbers) × (layout_at stage ≡ Some layout) × ((h : List L.Event) → HasTold L.is_after checker.now h
+    ensures violation { IfOk result (λ finding. finding.violation ≡ None) }
+    ensures found { IfOk result (λ finding. (layout : Numbers) × (layout_at awaited ≡ Some layout) × ((h : List L.Event) → HasTold L.is_after checker.now h
         → L.rules.IsLegal layout h × SaysOf L.rules (verdict_of layout h None) finding)) }
-    ensures refused { IfErr result (λ error. IfTextRefused error (λ e. (e.line ≡ number) × (last_fault stage rest.now ≡ Some e.kind))) }
+    ensures refused { IfErr result (λ error. IfTextRefused error (λ e. (e.line ≡ number) × (last_fault awaited rest.now ≡ Some e.kind))) }
 {
     if rest.len() > MOST_LINE_BYTES {
         return Err(refused(number, FaultKind::Size));
@@ -155,7 +155,7 @@ fn last<L: Recording>(
     if !rest.is_empty() {
         return Err(refused(number, FaultKind::Cut));
     }
-    let layout = layout_at_end(number, stage)?;
+    let layout = layout_at_end(number, awaited)?;
     found_so_far::<L>(alloc, layout, checker, None)
 }
 
@@ -168,31 +168,31 @@ pub(crate) fn judge<L: Recording, B: BufRead>(
     ensures found { (known : Option (List ℕ)) → Consumes known (B.remaining reader.old) line.old.items
         → IsLineRead line.old.items known (B.remaining reader.old)
         → IfOk result (λ finding. IfSome known (λ text. Finds (recording_line L.grammar) L.rules text finding
-        × IsSomeAnd (B.remaining reader.new) (IsReadThrough finding.stop text))) }
+        × IsSomeAnd (B.remaining reader.new) (IsReadThrough finding.violation text))) }
     ensures refused { (known : Option (List ℕ)) → Consumes known (B.remaining reader.old) line.old.items
         → IsLineRead line.old.items known (B.remaining reader.old)
         → IfErr result (λ error. IfSome known (λ text. IfTextRefused error (λ e. IsRefusedText (recording_line L.grammar) L.rules text e
         × IsSomeAnd (B.remaining reader.new) (IsReadToFault e text)))) }
 {
-    let mut stage = Stage::Version;
+    let mut awaited = Awaited::Version;
     let mut checker: Option<L::Checker> = None;
     for number in 1..u64::MAX {
         let text = match line_or_rest(line) {
             LineOrRest::Line(text) => text,
-            LineOrRest::Rest(rest) => return last::<L>(alloc, number, stage, &checker, rest),
+            LineOrRest::Rest(rest) => return last::<L>(alloc, number, awaited, &checker, rest),
         };
-        let told = match tell_line::<L>(alloc, stage, &mut checker, text) {
+        let told = match tell_line::<L>(alloc, awaited, &mut checker, text) {
             Ok(told) => told,
             Err(error) => return Err(refusal(number, error)),
         };
         match told {
-            LineOutcome::On(next) => stage = next,
-            LineOutcome::Stop(layout, cause) => {
-                let stop = Stop {
+            LineOutcome::On(next) => awaited = next,
+            LineOutcome::Violation(layout, cause) => {
+                let violation = Violation {
                     line: number,
                     cause,
                 };
-                return found_so_far::<L>(alloc, layout, &checker, Some(stop));
+                return found_so_far::<L>(alloc, layout, &checker, Some(violation));
             }
         }
         next_line(reader, line)?;

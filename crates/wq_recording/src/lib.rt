@@ -15,14 +15,14 @@ mod line_events;
 mod lines;
 mod one_item;
 mod recording;
-mod stop;
 mod trace;
 mod trace_checked;
 mod verdict_text;
+mod violation;
 
 pub use checking::check;
 pub use error::CheckError;
 pub use finding::Finding;
 pub use history_text::{record_history, record_steps};
 pub use laws::{histories_read_back, one_verdict};
-pub use stop::Stop;
+pub use violation::Violation;

@@ -3,7 +3,7 @@ ghost use Rattle.std.specs.Prelude.{◌≡◌, ◌++◌, [], List, length, slice
 ghost use Rattle.wq_words.specs.declared.layout.Layout.{Layout};
 ghost use Rattle.wq_words.specs.Counting.{capped};
 ghost use Rattle.wq_recording.specs.Verdict.{Rules};
-ghost use Rattle.wq_recording.specs.Recording.{StopsAmong};
+ghost use Rattle.wq_recording.specs.Recording.{ViolatesAmong};
 
 use std::alloc::{AllocError, Global};
 use wq_check::Cause;
@@ -35,7 +35,7 @@ pub(crate) trait Recording: Language {
         ensures layout { layout_of checker.new ≡ layout_of checker.old }
         ensures told { OnOk result ((h : List Self.Event) → is_after checker.old h → is_after checker.new (h ++ rules.tells asked)) }
         ensures stopped { IfErr result (λ cause. (h : List Self.Event) → is_after checker.old h
-            → StopsAmong rules (layout_of checker.old) h (rules.tells asked) (is_after checker.new) cause) };
+            → ViolatesAmong rules (layout_of checker.old) h (rules.tells asked) (is_after checker.new) cause) };
 
     // What an event is called.
     fn word() -> &'static str

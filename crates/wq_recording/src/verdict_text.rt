@@ -9,7 +9,7 @@ ghost use Rattle.wq_recording.specs.VerdictText.{cause_text, verdict_head, verdi
 use crate::error::CheckError;
 use crate::finding::Finding;
 use crate::recording::Recording;
-use crate::stop::Stop;
+use crate::violation::Violation;
 use std::alloc::{AllocError, Global};
 use wq_check::Cause;
 use wq_meaning::{write_count, write_line, write_named, write_row};
@@ -49,18 +49,18 @@ fn write_head(
     word: &str,
     layout: &Layout,
     told_count: u64,
-    stop: Option<Stop>,
+    violation: Option<Violation>,
     out: &mut String,
 ) -> Result<(), AllocError>
-    ensures { (n : ℕ) → told_count ≡ capped n → OnOk result (string_bytes out.new ≡ string_bytes out.old ++ verdict_head word.now layout.now n stop) }
+    ensures { (n : ℕ) → told_count ≡ capped n → OnOk result (string_bytes out.new ≡ string_bytes out.old ++ verdict_head word.now layout.now n violation) }
 {
-    match stop {
+    match violation {
         None => write_line("legal", out),
-        Some(stop) => {
+        Some(violation) => {
             write_line("not legal", out)?;
-            write_count("line", stop.line, out)?;
+            write_count("line", violation.line, out)?;
             write_count(word, told_count.saturating_add(1), out)?;
-            write_cause_line(layout, stop.cause, out)
+            write_cause_line(layout, violation.cause, out)
         }
     }
 }
@@ -79,40 +79,40 @@ fn left_numbers<L: Recording>(alloc: Global, checker: &L::Checker) -> Result<Vec
     Ok(numbers)
 }
 
-// Writes what is said of the events that were told, which all are legal, and of the stop behind them.
+// Writes what is said of the events that were told, which all are legal, and of the violation behind them.
 fn write_verdict<L: Recording>(
     alloc: Global,
     layout: &Layout,
     checker: &L::Checker,
-    stop: Option<Stop>,
+    violation: Option<Violation>,
     out: &mut String,
 ) -> Result<(), AllocError>
     ensures { OnOk result ((h : List L.Event) → L.is_after checker.now h
-        → string_bytes out.new ≡ string_bytes out.old ++ verdict_text L.rules (verdict_of layout.now h stop)) }
+        → string_bytes out.new ≡ string_bytes out.old ++ verdict_text L.rules (verdict_of layout.now h violation)) }
 {
-    write_head(L::word(), layout, L::told_count(checker), stop, out)?;
+    write_head(L::word(), layout, L::told_count(checker), violation, out)?;
     L::write_counts(checker, out)?;
     let numbers = left_numbers::<L>(alloc, checker)?;
     write_row(layout, "left", &numbers, out)
 }
 
-/// What is said of the events that were told, which all are legal, and of the stop behind them.
+/// What is said of the events that were told, which all are legal, and of the violation behind them.
 pub(crate) fn found<L: Recording>(
     alloc: Global,
     layout: Layout,
     checker: &L::Checker,
-    stop: Option<Stop>,
+    violation: Option<Violation>,
 ) -> Result<Finding, CheckError>
-    ensures says { IfOk result (λ finding. (h : List L.Event) → L.is_after checker.now h → SaysOf L.rules (verdict_of layout h stop) finding) }
-    ensures stop { IfOk result (λ finding. finding.stop ≡ stop) }
+    ensures says { IfOk result (λ finding. (h : List L.Event) → L.is_after checker.now h → SaysOf L.rules (verdict_of layout h violation) finding) }
+    ensures violation { IfOk result (λ finding. finding.violation ≡ violation) }
     ensures memory { IfErr result (λ error. error ≡ Text Memory) }
 {
     let mut out = String::new(alloc);
-    write_verdict::<L>(alloc, &layout, checker, stop, &mut out)?;
+    write_verdict::<L>(alloc, &layout, checker, violation, &mut out)?;
     Ok(Finding {
         text: out.into_bytes(),
-        stop,
-        is_legal: stop.is_none(),
+        violation,
+        is_legal: violation.is_none(),
         left: L::left_count(checker),
     })
 }

@@ -29,4 +29,4 @@ pub use Rattle.wq_text.specs.declared.fault.FaultKind.{FaultKind}
 pub use Rattle.wq_text.specs.declared.fault.LineError.{LineError}
 pub use Rattle.wq_text.specs.declared.fault.ScriptError.{ScriptError}
 pub use Rattle.wq_text.specs.declared.header.Most.{Most}
-pub use Rattle.wq_text.specs.declared.header.Stage.{Stage}
+pub use Rattle.wq_text.specs.declared.header.Awaited.{Awaited}

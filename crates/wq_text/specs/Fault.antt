@@ -21,7 +21,7 @@ abbrev pub found : {A : Type 0} → FaultKind → Option A → Result A FaultKin
 found k None = Err k
 found k (Some x) = Ok x
 
--- a command, a stage or the like that is made of nothing, of one value, or of two
+-- a command, what is awaited, or the like, that is made of nothing, of one value, or of two
 abbrev pub of_none : {C : Type 0} → C → Result (Unit {0}) FaultKind → Result C FaultKind
 of_none c told = told >>= λ _. Ok c
 

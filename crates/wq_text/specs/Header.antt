@@ -8,8 +8,8 @@ use Rattle.wq_words.specs.Layout.{layout_of_numbers}
 use Rattle.wq_text.specs.declared.fault.FaultKind.{FaultKind}
 use Rattle.wq_text.specs.declared.fault.FaultKind.TheVariants as kind
 use Rattle.wq_text.specs.declared.header.Most.{Most}
-use Rattle.wq_text.specs.declared.header.Stage.{Stage}
-use Rattle.wq_text.specs.declared.header.Stage.TheVariants as stage
+use Rattle.wq_text.specs.declared.header.Awaited.{Awaited}
+use Rattle.wq_text.specs.declared.header.Awaited.TheVariants as awaited
 use Rattle.wq_text.specs.Arguments.{between, one}
 use Rattle.wq_text.specs.Fault.{◌>>=◌, need, of_one}
 
@@ -18,16 +18,16 @@ abbrev pub is_header : List ℕ → Bool
 is_header w = bytes_eq w (codes "items") || (bytes_eq w (codes "senders") || bytes_eq w (codes "barriers"))
 
 -- items, then senders, then barriers if they are named
-unfoldable pub awaits : Stage → List ℕ → Bool
-awaits stage.Items w = bytes_eq w (codes "items")
-awaits (stage.Senders layout) w = bytes_eq w (codes "senders")
-awaits (stage.Barriers layout) w = bytes_eq w (codes "barriers")
+unfoldable pub awaits : Awaited → List ℕ → Bool
+awaits awaited.Items w = bytes_eq w (codes "items")
+awaits (awaited.Senders layout) w = bytes_eq w (codes "senders")
+awaits (awaited.Barriers layout) w = bytes_eq w (codes "barriers")
 awaits s w = false
 
 -- the layout, once a line may ask something of the queue
-abbrev pub layout_at : Stage → Option Layout
-layout_at (stage.Barriers layout) = Some layout
-layout_at (stage.Commands layout) = Some layout
+abbrev pub layout_at : Awaited → Option Layout
+layout_at (awaited.Barriers layout) = Some layout
+layout_at (awaited.Commands layout) = Some layout
 layout_at s = None
 
 -- a number that is at most another, with its proof
@@ -61,20 +61,21 @@ unfoldable pub limited : FaultKind → ℕ → ℕ → ℕ → Result Layout Fau
 limited k items barriers senders = with_limits k items barriers senders (in_limits items barriers senders)
 
 -- what is awaited behind the line of the items: that of the senders, or, where no line names them, what is asked of the queue
-unfoldable pub behind_items : Bool → Most → ℕ → Result Stage FaultKind
-behind_items true most items = of_one stage.Senders (limited kind.Items items 1 1)
-behind_items false most items = of_one stage.Commands (limited kind.Items items 1 most.senders)
+unfoldable pub behind_items : Bool → Most → ℕ → Result Awaited FaultKind
+behind_items true most items = of_one awaited.Senders (limited kind.Items items 1 1)
+behind_items false most items = of_one awaited.Commands (limited kind.Items items 1 most.senders)
 
 -- what is awaited behind a header line, of at most so many items and senders: until a line names them, there is 1 of each thing, and where
 -- none does, there are as many senders as there may be
-unfoldable pub header_gives : Bool → Most → Stage → List (List ℕ) → Result Stage FaultKind
-header_gives seats most stage.Items ws = one (between kind.Items 1 most.items) ws >>= behind_items seats most
-header_gives seats most (stage.Senders l) ws = of_one stage.Barriers (one (between kind.Senders 1 most.senders) ws >>= λ n. limited kind.Senders l.items 1 n)
-header_gives seats most (stage.Barriers l) ws =
-    of_one stage.Commands (one (between kind.Barriers 1 most_barriers) ws >>= λ n. limited kind.Barriers l.items n l.senders)
+unfoldable pub header_gives : Bool → Most → Awaited → List (List ℕ) → Result Awaited FaultKind
+header_gives seats most awaited.Items ws = one (between kind.Items 1 most.items) ws >>= behind_items seats most
+header_gives seats most (awaited.Senders l) ws = of_one awaited.Barriers
+    (one (between kind.Senders 1 most.senders) ws >>= λ n. limited kind.Senders l.items 1 n)
+header_gives seats most (awaited.Barriers l) ws =
+    of_one awaited.Commands (one (between kind.Barriers 1 most_barriers) ws >>= λ n. limited kind.Barriers l.items n l.senders)
 header_gives seats most s ws = Err kind.Header
 
-abbrev pub header_line_gives : Bool → Most → Stage → List ℕ → List (List ℕ) → Result Stage FaultKind
+abbrev pub header_line_gives : Bool → Most → Awaited → List ℕ → List (List ℕ) → Result Awaited FaultKind
 header_line_gives seats most s w ws = do
   _ ← need kind.Header (awaits s w)
   header_gives seats most s ws

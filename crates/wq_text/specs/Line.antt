@@ -6,8 +6,8 @@ use Rattle.wq_words.specs.declared.layout.Layout.{Layout}
 use Rattle.wq_text.specs.declared.fault.FaultKind.{FaultKind}
 use Rattle.wq_text.specs.declared.fault.FaultKind.TheVariants as kind
 use Rattle.wq_text.specs.declared.header.Most.{Most}
-use Rattle.wq_text.specs.declared.header.Stage.{Stage}
-use Rattle.wq_text.specs.declared.header.Stage.TheVariants as stage
+use Rattle.wq_text.specs.declared.header.Awaited.{Awaited}
+use Rattle.wq_text.specs.declared.header.Awaited.TheVariants as awaited
 use Rattle.wq_text.specs.Fault.{◌>>=◌, need, found, of_none, of_one}
 use Rattle.wq_text.specs.Header.{is_header, layout_at, header_line_gives}
 use Rattle.wq_text.specs.Word.{words, is_plain, is_word}
@@ -23,30 +23,30 @@ pub record Grammar (N A : Type 0) : Type 0 where
 
 -- what a line gives, by which line is awaited: what is awaited next, and what the line asks for, if anything
 abbrev pub Lines : Type 0 → Type 0
-Lines A = Stage → List ℕ → Result (Stage × Option A) FaultKind
+Lines A = Awaited → List ℕ → Result (Awaited × Option A) FaultKind
 
 -- a line that is none of the header
-abbrev pub asking_line : {N A : Type 0} → Grammar N A → Stage → List ℕ → List (List ℕ) → Result (Stage × Option A) FaultKind
+abbrev pub asking_line : {N A : Type 0} → Grammar N A → Awaited → List ℕ → List (List ℕ) → Result (Awaited × Option A) FaultKind
 asking_line g s w ws = do
   name ← found kind.Word (g.names w ws)
   layout ← found kind.Header (layout_at s)
-  of_one (λ a. (stage.Commands layout, Some a)) (g.asks layout name w ws)
+  of_one (λ a. (awaited.Commands layout, Some a)) (g.asks layout name w ws)
 
-abbrev pub by_first_word : {N A : Type 0} → Grammar N A → Stage → List ℕ → List (List ℕ) → Result (Stage × Option A) FaultKind
+abbrev pub by_first_word : {N A : Type 0} → Grammar N A → Awaited → List ℕ → List (List ℕ) → Result (Awaited × Option A) FaultKind
 by_first_word g s w ws = if is_header w then of_one (λ next. (next, None)) (header_line_gives g.names_seats g.most s w ws) else asking_line g s w ws
 
-abbrev pub by_words : {N A : Type 0} → Grammar N A → Stage → List (List ℕ) → Result (Stage × Option A) FaultKind
+abbrev pub by_words : {N A : Type 0} → Grammar N A → Awaited → List (List ℕ) → Result (Awaited × Option A) FaultKind
 by_words g s [] = Err kind.Word
 by_words g s (w ∷ ws) = by_first_word g s w ws
 
 -- the words of a line that is not passed over
-unfoldable pub words_give : {N A : Type 0} → Grammar N A → Stage → List (List ℕ) → Result (Stage × Option A) FaultKind
+unfoldable pub words_give : {N A : Type 0} → Grammar N A → Awaited → List (List ℕ) → Result (Awaited × Option A) FaultKind
 words_give g s ws = do
   _ ← need kind.Space (list_all is_word ws)
   by_words g s ws
 
 -- a line that is not passed over
-unfoldable pub plain_line_gives : {N A : Type 0} → Grammar N A → Stage → List ℕ → Result (Stage × Option A) FaultKind
+unfoldable pub plain_line_gives : {N A : Type 0} → Grammar N A → Awaited → List ℕ → Result (Awaited × Option A) FaultKind
 plain_line_gives g s line = do
   _ ← need kind.Bytes (list_all is_plain line)
   words_give g s (words line)
@@ -58,5 +58,5 @@ is_passed_over (b ∷ bs) = b == 35
 
 -- a line of a text
 abbrev pub line_gives : {N A : Type 0} → Grammar N A → Lines A
-line_gives g stage.Version line = of_none (stage.Items, None) (need kind.Version (bytes_eq line g.version))
+line_gives g awaited.Version line = of_none (awaited.Items, None) (need kind.Version (bytes_eq line g.version))
 line_gives g s line = if is_passed_over line then Ok (s, None) else plain_line_gives g s line

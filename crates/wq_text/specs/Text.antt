@@ -5,37 +5,37 @@ use Rattle.wq_words.specs.declared.layout.Layout.{Layout}
 use Rattle.wq_text.specs.declared.fault.FaultKind.{FaultKind}
 use Rattle.wq_text.specs.declared.fault.FaultKind.TheVariants as kind
 use Rattle.wq_text.specs.declared.fault.ScriptError.{ScriptError}
-use Rattle.wq_text.specs.declared.header.Stage.{Stage}
-use Rattle.wq_text.specs.declared.header.Stage.TheVariants as stage
+use Rattle.wq_text.specs.declared.header.Awaited.{Awaited}
+use Rattle.wq_text.specs.declared.header.Awaited.TheVariants as awaited
 use Rattle.wq_text.specs.Header.{layout_at}
 use Rattle.wq_text.specs.TextLimits.{most_bytes}
 use Rattle.wq_text.specs.Line.{Lines}
 use Rattle.wq_text.specs.Word.{parts}
 
--- none of the lines has a fault; they lead from stage s to stage t and ask for these in turn
-abbrev pub LinesLead : {A : Type 0} → Lines A → Stage → List (List ℕ) → Stage → List A → Type 0
+-- none of the lines has a fault; s is awaited before them and t behind them, and they ask for these in turn
+abbrev pub LinesLead : {A : Type 0} → Lines A → Awaited → List (List ℕ) → Awaited → List A → Type 0
 LinesLead gives s [] t asked = (s ≡ t) × (asked ≡ [])
 LinesLead {A} gives s (line ∷ lines) t asked =
-    (x : Stage × Option A) × (rest : List A) × (gives s line ≡ Ok x) × (asked ≡ option_to_list x.1 ++ rest) × LinesLead gives x.0 lines t rest
+    (x : Awaited × Option A) × (rest : List A) × (gives s line ≡ Ok x) × (asked ≡ option_to_list x.1 ++ rest) × LinesLead gives x.0 lines t rest
 
 -- the text is short enough and ends behind lines without a fault, and with them the header is complete
 pub record Spells {A : Type 0} (gives : Lines A) (text : List ℕ) (layout : Layout) (asked : List A) : Type 0 where
   pub short : length text ≤ most_bytes
   pub lines : List (List ℕ)
-  pub reached : Stage
+  pub reached : Awaited
   pub split : parts text ≡ lines ++ [] ∷ []
-  pub leads : LinesLead gives stage.Version lines reached asked
+  pub leads : LinesLead gives awaited.Version lines reached asked
   pub whole : layout_at reached ≡ Some layout
 
 -- what is wrong where a text ends without a whole header
-abbrev pub end_fault : Stage → Option FaultKind
-end_fault stage.Version = Some kind.Version
-end_fault stage.Items = Some kind.Header
-end_fault (stage.Senders layout) = Some kind.Header
+abbrev pub end_fault : Awaited → Option FaultKind
+end_fault awaited.Version = Some kind.Version
+end_fault awaited.Items = Some kind.Header
+end_fault (awaited.Senders layout) = Some kind.Header
 end_fault s = None
 
 -- the fault k of a line, which parts follow; the last part is no line, and is to be empty
-abbrev pub HasLineFault : {A : Type 0} → Lines A → Stage → List ℕ → List (List ℕ) → FaultKind → Type 0
+abbrev pub HasLineFault : {A : Type 0} → Lines A → Awaited → List ℕ → List (List ℕ) → FaultKind → Type 0
 HasLineFault gives s line (next ∷ more) k = gives s line ≡ Err k
 HasLineFault gives s (b ∷ bs) [] k = k ≡ kind.Cut
 HasLineFault gives s [] [] k = end_fault s ≡ Some k
@@ -46,10 +46,10 @@ pub record IsFaultyAt {A : Type 0} (gives : Lines A) (text : List ℕ) (e : Scri
   pub before : List (List ℕ)
   pub faulty : List ℕ
   pub behind : List (List ℕ)
-  pub reached : Stage
+  pub reached : Awaited
   pub asked : List A
   pub split : parts text ≡ before ++ faulty ∷ behind
-  pub leads : LinesLead gives stage.Version before reached asked
+  pub leads : LinesLead gives awaited.Version before reached asked
   pub number : e.line ≡ 1 + length before
   pub fault : HasLineFault gives reached faulty behind e.kind
 

@@ -3,7 +3,7 @@ ghost use Rattle.std.specs.Prelude.{◌≡◌, map, IfOk};
 ghost use Rattle.wq_text.specs.Fault.{LineGives};
 ghost use Rattle.wq_text.specs.Header.{limited, is_header, layout_at, behind_items, header_line_gives};
 ghost use Rattle.wq_text.specs.Sound.{KeepsHeader};
-ghost use Rattle.wq_text.specs.declared.header.Stage.TheVariants.{Items};
+ghost use Rattle.wq_text.specs.declared.header.Awaited.TheVariants.{Items};
 
 use crate::arguments::one_between;
 use crate::fault::{FaultKind, LineError};
@@ -21,7 +21,7 @@ pub struct Most {
 /// Which line is awaited: the version, then those of the header, with the layout so far, then what is asked of the queue. The
 /// layout has 1 of each thing that no line has named yet.
 #[derive(Clone, Copy)]
-pub enum Stage {
+pub enum Awaited {
     /// The first line, which names the language and its version.
     Version,
     /// The line that says how many items the queue has.
@@ -34,14 +34,14 @@ pub enum Stage {
     Commands(Layout),
 }
 
-impl Stage {
+impl Awaited {
     /// The layout, once a line may ask something of the queue.
     pub fn layout(self) -> Option<Layout>
         ensures known { result ≡ layout_at self }
     {
         match self {
-            Stage::Barriers(layout) | Stage::Commands(layout) => Some(layout),
-            Stage::Version | Stage::Items | Stage::Senders(_) => None,
+            Awaited::Barriers(layout) | Awaited::Commands(layout) => Some(layout),
+            Awaited::Version | Awaited::Items | Awaited::Senders(_) => None,
         }
     }
 }
@@ -66,14 +66,14 @@ fn limited(kind: FaultKind, items: u32, barriers: u32, senders: u32) -> Result<L
 
 // What is awaited behind the line of the items.
 #[tactic(auto, unfolding(crate::specs::Header::behind_items))]
-fn behind_items(names_seats: bool, most: Most, items: u32) -> Result<Stage, LineError>
+fn behind_items(names_seats: bool, most: Most, items: u32) -> Result<Awaited, LineError>
     ensures exact { LineGives result (behind_items names_seats most items) }
     ensures sound { IfOk result (KeepsHeader most.senders Items) }
 {
     if names_seats {
-        limited(FaultKind::Items, items, 1, 1).map(Stage::Senders)
+        limited(FaultKind::Items, items, 1, 1).map(Awaited::Senders)
     } else {
-        limited(FaultKind::Items, items, 1, most.senders).map(Stage::Commands)
+        limited(FaultKind::Items, items, 1, most.senders).map(Awaited::Commands)
     }
 }
 
@@ -82,26 +82,26 @@ fn behind_items(names_seats: bool, most: Most, items: u32) -> Result<Stage, Line
 pub(crate) fn header_line(
     names_seats: bool,
     most: Most,
-    stage: Stage,
+    awaited: Awaited,
     first: &str,
     others: &[&str],
-) -> Result<Stage, LineError>
-    ensures exact { LineGives result (header_line_gives names_seats most stage first.now (map (λ w. w.now) others.now)) }
-    ensures sound { IfOk result (KeepsHeader most.senders stage) }
+) -> Result<Awaited, LineError>
+    ensures exact { LineGives result (header_line_gives names_seats most awaited first.now (map (λ w. w.now) others.now)) }
+    ensures sound { IfOk result (KeepsHeader most.senders awaited) }
 {
-    match (stage, first) {
-        (Stage::Items, "items") => {
+    match (awaited, first) {
+        (Awaited::Items, "items") => {
             let items = one_between(FaultKind::Items, 1, most.items, others)?;
             behind_items(names_seats, most, items)
         }
-        (Stage::Senders(layout), "senders") => {
+        (Awaited::Senders(layout), "senders") => {
             let senders = one_between(FaultKind::Senders, 1, most.senders, others)?;
-            limited(FaultKind::Senders, layout.items, 1, senders).map(Stage::Barriers)
+            limited(FaultKind::Senders, layout.items, 1, senders).map(Awaited::Barriers)
         }
-        (Stage::Barriers(layout), "barriers") => {
+        (Awaited::Barriers(layout), "barriers") => {
             let barriers = one_between(FaultKind::Barriers, 1, MOST_BARRIERS, others)?;
             limited(FaultKind::Barriers, layout.items, barriers, layout.senders).map(
-                Stage::Commands,
+                Awaited::Commands,
             )
         }
         _ => Err(LineError::Fault(FaultKind::Header)),

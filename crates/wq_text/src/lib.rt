@@ -19,7 +19,7 @@ mod word;
 pub use arguments::{item, no_word, one_word};
 pub use command::{Command, Follow};
 pub use fault::{FaultKind, LineError, ParseError, ScriptError};
-pub use header::{Most, Stage};
+pub use header::{Awaited, Most};
 pub use line::{Language, read_line};
 pub use schedule::Schedule;
 pub use schedule_text::parse_steps;

@@ -9,7 +9,7 @@ ghost use Rattle.wq_text.specs.Line.{Grammar, asking_line, by_first_word, words_
 ghost use Rattle.wq_text.specs.Sound.{KeepsSound};
 
 use crate::fault::{FaultKind, LineError};
-use crate::header::{Most, Stage, header_line, is_header};
+use crate::header::{Awaited, Most, header_line, is_header};
 use crate::word::{few_words, words_of};
 use std::alloc::Global;
 use wq_words::Layout;
@@ -56,37 +56,37 @@ pub trait Language {
 
 // A line that is none of the header.
 fn asking_line<L: Language>(
-    stage: Stage,
+    awaited: Awaited,
     first: &str,
     others: &[&str],
-) -> Result<(Stage, Option<L::Asked>), LineError>
-    ensures exact { LineGives result (asking_line L.grammar stage first.now (map (λ w. w.now) others.now)) }
-    ensures sound { IfOk result (λ given. KeepsSound L.grammar.most.senders L.fits stage given.0 given.1) }
+) -> Result<(Awaited, Option<L::Asked>), LineError>
+    ensures exact { LineGives result (asking_line L.grammar awaited first.now (map (λ w. w.now) others.now)) }
+    ensures sound { IfOk result (λ given. KeepsSound L.grammar.most.senders L.fits awaited given.0 given.1) }
 {
     let Some(name) = L::name(first, others) else {
         return Err(LineError::Fault(FaultKind::Word));
     };
-    let Some(layout) = stage.layout() else {
+    let Some(layout) = awaited.layout() else {
         return Err(LineError::Fault(FaultKind::Header));
     };
     let asked = L::ask(layout, name, first, others)?;
-    Ok((Stage::Commands(layout), Some(asked)))
+    Ok((Awaited::Commands(layout), Some(asked)))
 }
 
 // A line of the header, or one behind it.
 fn first_word_line<L: Language>(
-    stage: Stage,
+    awaited: Awaited,
     first: &str,
     others: &[&str],
-) -> Result<(Stage, Option<L::Asked>), LineError>
-    ensures exact { LineGives result (by_first_word L.grammar stage first.now (map (λ w. w.now) others.now)) }
-    ensures sound { IfOk result (λ given. KeepsSound L.grammar.most.senders L.fits stage given.0 given.1) }
+) -> Result<(Awaited, Option<L::Asked>), LineError>
+    ensures exact { LineGives result (by_first_word L.grammar awaited first.now (map (λ w. w.now) others.now)) }
+    ensures sound { IfOk result (λ given. KeepsSound L.grammar.most.senders L.fits awaited given.0 given.1) }
 {
     if is_header(first) {
-        let next = header_line(L::names_seats(), L::most(), stage, first, others)?;
+        let next = header_line(L::names_seats(), L::most(), awaited, first, others)?;
         return Ok((next, None));
     }
-    asking_line::<L>(stage, first, others)
+    asking_line::<L>(awaited, first, others)
 }
 
 // Whether each word has bytes.
@@ -98,11 +98,11 @@ fn are_words(words: &[&str]) -> bool
 
 // A line of words.
 fn words_line<L: Language>(
-    stage: Stage,
+    awaited: Awaited,
     words: &[&str],
-) -> Result<(Stage, Option<L::Asked>), LineError>
-    ensures exact { LineGives result (words_give L.grammar stage (map (λ w. w.now) words.now)) }
-    ensures sound { IfOk result (λ given. KeepsSound L.grammar.most.senders L.fits stage given.0 given.1) }
+) -> Result<(Awaited, Option<L::Asked>), LineError>
+    ensures exact { LineGives result (words_give L.grammar awaited (map (λ w. w.now) words.now)) }
+    ensures sound { IfOk result (λ given. KeepsSound L.grammar.most.senders L.fits awaited given.0 given.1) }
 {
     if !are_words(words) {
         return Err(LineError::Fault(FaultKind::Space));
@@ -110,7 +110,7 @@ fn words_line<L: Language>(
     let Some((first, others)) = words.split_first() else {
         return Err(LineError::Fault(FaultKind::Word));
     };
-    first_word_line::<L>(stage, first, others)
+    first_word_line::<L>(awaited, first, others)
 }
 
 // Whether each byte of a line is plain.
@@ -135,20 +135,20 @@ fn plain_text(line: &[u8]) -> Option<&str>
 #[tactic(auto, unfolding(crate::specs::Line::plain_line_gives))]
 fn plain_line<L: Language>(
     alloc: Global,
-    stage: Stage,
+    awaited: Awaited,
     line: &[u8],
-) -> Result<(Stage, Option<L::Asked>), LineError>
-    ensures exact { LineGives result (plain_line_gives L.grammar stage line.now) }
-    ensures sound { IfOk result (λ given. KeepsSound L.grammar.most.senders L.fits stage given.0 given.1) }
+) -> Result<(Awaited, Option<L::Asked>), LineError>
+    ensures exact { LineGives result (plain_line_gives L.grammar awaited line.now) }
+    ensures sound { IfOk result (λ given. KeepsSound L.grammar.most.senders L.fits awaited given.0 given.1) }
 {
     let Some(text) = plain_text(line) else {
         return Err(LineError::Fault(FaultKind::Bytes));
     };
     if let Some(words) = few_words(alloc, text) {
-        return words_line::<L>(stage, &words);
+        return words_line::<L>(awaited, &words);
     }
     let words = words_of(alloc, text)?;
-    words_line::<L>(stage, &words)
+    words_line::<L>(awaited, &words)
 }
 
 /// Which line is awaited behind this one, and what this one asks for.
@@ -159,25 +159,25 @@ fn plain_line<L: Language>(
 #[tactic(auto, using(crate::proofs::Sound::keeps_none, crate::proofs::Sound::keeps_version))]
 pub fn read_line<L: Language>(
     alloc: Global,
-    stage: Stage,
+    awaited: Awaited,
     line: &[u8],
-) -> Result<(Stage, Option<L::Asked>), LineError>
-    ensures exact { LineGives result (line_gives L.grammar stage line.now) }
-    ensures sound { IfOk result (λ given. KeepsSound L.grammar.most.senders L.fits stage given.0 given.1) }
+) -> Result<(Awaited, Option<L::Asked>), LineError>
+    ensures exact { LineGives result (line_gives L.grammar awaited line.now) }
+    ensures sound { IfOk result (λ given. KeepsSound L.grammar.most.senders L.fits awaited given.0 given.1) }
 {
-    match stage {
-        Stage::Version => {
+    match awaited {
+        Awaited::Version => {
             if L::is_version(line) {
-                Ok((Stage::Items, None))
+                Ok((Awaited::Items, None))
             } else {
                 Err(LineError::Fault(FaultKind::Version))
             }
         }
         _ => {
             if line.is_empty() || line[0] == b'#' {
-                Ok((stage, None))
+                Ok((awaited, None))
             } else {
-                plain_line::<L>(alloc, stage, line)
+                plain_line::<L>(alloc, awaited, line)
             }
         }
     }

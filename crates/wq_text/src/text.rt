@@ -11,7 +11,7 @@ ghost use Rattle.wq_text.specs.Version.{begins_with_line};
 ghost use Rattle.wq_text.specs.Word.{parts};
 
 use crate::fault::{FaultKind, LineError, ParseError, ScriptError};
-use crate::header::Stage;
+use crate::header::Awaited;
 use crate::line::{Language, read_line};
 use std::alloc::{AllocError, Global};
 use wq_words::Layout;
@@ -56,14 +56,14 @@ pub(crate) fn is_of<L: Language>(text: &[u8]) -> bool
 fn numbered_line<L: Language>(
     alloc: Global,
     number: u64,
-    stage: Stage,
+    awaited: Awaited,
     line: &[u8],
-) -> Result<(Stage, Option<L::Asked>), ParseError>
-    ensures gives { IfOk result (λ given. line_gives L.grammar stage line.now ≡ Ok given) }
-    ensures refused { IfRefused result (λ e. (e.line ≡ number) × (line_gives L.grammar stage line.now ≡ Err e.kind)) }
-    ensures sound { IfOk result (λ given. KeepsSound L.grammar.most.senders L.fits stage given.0 given.1) }
+) -> Result<(Awaited, Option<L::Asked>), ParseError>
+    ensures gives { IfOk result (λ given. line_gives L.grammar awaited line.now ≡ Ok given) }
+    ensures refused { IfRefused result (λ e. (e.line ≡ number) × (line_gives L.grammar awaited line.now ≡ Err e.kind)) }
+    ensures sound { IfOk result (λ given. KeepsSound L.grammar.most.senders L.fits awaited given.0 given.1) }
 {
-    match read_line::<L>(alloc, stage, line) {
+    match read_line::<L>(alloc, awaited, line) {
         Ok(given) => Ok(given),
         Err(LineError::Memory) => Err(ParseError::Memory),
         Err(LineError::Fault(kind)) => Err(refused(number, kind)),
@@ -85,15 +85,15 @@ fn add<A: Drop>(asked: &mut Vec<A>, one: Option<A>) -> Result<(), AllocError>
 /// # Errors
 /// `Refused` with that line: `Version` where no line has come yet, `Header` where the items or the senders are not named yet.
 /// Never `Memory`.
-pub fn layout_at_end(number: u64, stage: Stage) -> Result<Layout, ParseError>
-    ensures whole { IfOk result (λ layout. layout_at stage ≡ Some layout) }
-    ensures refused { IfRefused result (λ e. (e.line ≡ number) × (end_fault stage ≡ Some e.kind)) }
+pub fn layout_at_end(number: u64, awaited: Awaited) -> Result<Layout, ParseError>
+    ensures whole { IfOk result (λ layout. layout_at awaited ≡ Some layout) }
+    ensures refused { IfRefused result (λ e. (e.line ≡ number) × (end_fault awaited ≡ Some e.kind)) }
     ensures memory { result ≢ Err ParseError.Memory }
 {
-    match stage {
-        Stage::Version => Err(refused(number, FaultKind::Version)),
-        Stage::Items | Stage::Senders(_) => Err(refused(number, FaultKind::Header)),
-        Stage::Barriers(layout) | Stage::Commands(layout) => Ok(layout),
+    match awaited {
+        Awaited::Version => Err(refused(number, FaultKind::Version)),
+        Awaited::Items | Awaited::Senders(_) => Err(refused(number, FaultKind::Header)),
+        Awaited::Barriers(layout) | Awaited::Commands(layout) => Ok(layout),
     }
 }
 
@@ -110,20 +110,20 @@ pub(crate) fn read<L: Language>(
     if text.len() > MOST_BYTES {
         return Err(refused(1, FaultKind::Size));
     }
-    let mut stage = Stage::Version;
+    let mut awaited = Awaited::Version;
     let mut asked = Vec::new(alloc);
     let mut number = 1u64;
     let mut rest = text;
     while let Some((line, after)) = cut_line(rest) {
-        let (next, one) = numbered_line::<L>(alloc, number, stage, line)?;
+        let (next, one) = numbered_line::<L>(alloc, number, awaited, line)?;
         add(&mut asked, one)?;
-        stage = next;
+        awaited = next;
         number += 1;
         rest = after;
     }
     if !rest.is_empty() {
         return Err(refused(number, FaultKind::Cut));
     }
-    let layout = layout_at_end(number, stage)?;
+    let layout = layout_at_end(number, awaited)?;
     Ok((layout, asked))
 }

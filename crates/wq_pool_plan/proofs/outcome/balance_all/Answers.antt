@@ -1,4 +1,4 @@
-use Rattle.wq_pool_plan.proofs.Common.{◌≡◌, ◌+◌, List, [], ◌∷◌, length, get_or, refl, sym, ap, ◌∙◌, arith, length-append, take_all, BookState, Idle, WorkerId}
+use Rattle.wq_pool_plan.proofs.Common.{◌≡◌, ◌+◌, List, [], ◌∷◌, length, get_or, refl, sym, ap, ◌∙◌, arith, length-append, take_all, BookState, RunCounter, WorkerId}
 use Rattle.std.proofs.lemmas.List.{length-take-le}
 use Rattle.wq_pool_plan.proofs.Common.{Plan, AreFinished, AllSent}
 use Rattle.wq_pool_plan.proofs.Summed.{finished_count, is_last, tells_none, tells_more, few_told}
@@ -19,7 +19,7 @@ loop-work-init c =
 pub unreachable-requires : goal.unreachable-requires
 unreachable-requires c =
     let l = c.loop-work in let r = c.requires in let n = length l.finished.items in
-    let one : Idle × BookState = (c.in-Some.work, c.in-Some.book) in
+    let one : RunCounter × BookState = (c.in-Some.work, c.in-Some.book) in
     let some = ap length c.in-Some.ensures.items ∙ length-append c.pop.new.self.items (one ∷ []) in
     let count = finished_count (λ w. w.ran.items) r.1 c.args.finished.items r.3 in
     let left = ap length l.invariant.groups_are ∙ length-take-le n c.args.by_queue.items (omega (arith, l.invariant.within, count, r.4.groups_count)) in
@@ -28,7 +28,7 @@ unreachable-requires c =
 pub unreachable-requires-in_default-pop-2 : goal.unreachable-requires-in_default-pop-2
 unreachable-requires-in_default-pop-2 c =
     let l = c.loop-work in let r = c.requires in let n = length l.finished.items in
-    let one : Idle × BookState = (c.in-Some.work, c.in-Some.book) in
+    let one : RunCounter × BookState = (c.in-Some.work, c.in-Some.book) in
     let some = ap length c.in-Some.ensures.items ∙ length-append c.pop.new.self.items (one ∷ []) in
     let count = finished_count (λ w. w.ran.items) r.1 c.args.finished.items r.3 in
     let left = ap length l.invariant.programs_are ∙ length-take-le n c.args.programs.items (omega (arith, l.invariant.within, count, r.4.programs_count)) in
@@ -37,7 +37,7 @@ unreachable-requires-in_default-pop-2 c =
 pub balance_one-requires : goal.balance_one-requires
 balance_one-requires c =
     let l = c.loop-work in let r = c.requires in let k = length c.pop.new.self.items in
-    let one : Idle × BookState = (c.in-Some.work, c.in-Some.book) in
+    let one : RunCounter × BookState = (c.in-Some.work, c.in-Some.book) in
     let next : length l.finished.items ≡ k + 1 = ap length c.in-Some.ensures.items ∙ length-append c.pop.new.self.items (one ∷ []) in
     let some : WorkerId = record { queue = c.in-Some.book.queue; layout = c.in-Some.book.layout; number = 0; tries = 0 } in
     let at = is_last r.0 r.1 c.args.finished.items c.args.by_queue.items c.args.programs.items r.3 r.4 some k (length l.finished.items) next
@@ -49,7 +49,7 @@ balance_one-requires c =
 pub both-all-requires : goal.both-all-requires
 both-all-requires c =
     let l = c.loop-work in let r = c.requires in let k = length c.pop.new.self.items in
-    let one : Idle × BookState = (c.in-Some.work, c.in-Some.book) in
+    let one : RunCounter × BookState = (c.in-Some.work, c.in-Some.book) in
     let next : length l.finished.items ≡ k + 1 = ap length c.in-Some.ensures.items ∙ length-append c.pop.new.self.items (one ∷ []) in
     let some : WorkerId = record { queue = c.in-Some.book.queue; layout = c.in-Some.book.layout; number = 0; tries = 0 } in
     let at = is_last r.0 r.1 c.args.finished.items c.args.by_queue.items c.args.programs.items r.3 r.4 some k (length l.finished.items) next
@@ -64,10 +64,10 @@ both-all-requires c =
 pub loop-work-preserved : goal.loop-work-preserved
 loop-work-preserved c =
     let l = c.loop-work in let r = c.requires in let k = length c.pop.new.self.items in
-    let one : Idle × BookState = (c.in-Some.work, c.in-Some.book) in
+    let one : RunCounter × BookState = (c.in-Some.work, c.in-Some.book) in
     let next : length l.finished.items ≡ k + 1 = ap length c.in-Some.ensures.items ∙ length-append c.pop.new.self.items (one ∷ []) in
     let some : WorkerId = record { queue = c.in-Some.book.queue; layout = c.in-Some.book.layout; number = 0; tries = 0 } in
-    let F : List WorkerId → Type 0 = λ ids. AreFinished {W = Idle} (λ w. w.ran.items) ids c.args.finished.items in
+    let F : List WorkerId → Type 0 = λ ids. AreFinished {W = RunCounter} (λ w. w.ran.items) ids c.args.finished.items in
     let S : Plan → List WorkerId → Type 0 = λ plan ids. AllSent plan ids c.args.by_queue.items c.args.programs.items in
     let at = λ (plan : Plan) (ids : List WorkerId) (f : F ids) (s : S plan ids). is_last plan ids c.args.finished.items c.args.by_queue.items
     c.args.programs.items f s some k (length l.finished.items) next

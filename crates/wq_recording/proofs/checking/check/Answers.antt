@@ -63,7 +63,7 @@ returns-then-is_trace-clause-read g c =
     let known = g.B.Read.remaining c.args.reader.now in
     let first = c.in_ok-next_line.ensures in
     let left = g.B.Read.remaining c.judge.new.reader in
-    ok_weaker c.judge.result known _ (λ finding text. IsSomeAnd left (IsReadThrough finding.stop text)) (λ finding text both. both.1)
+    ok_weaker c.judge.result known _ (λ finding text. IsSomeAnd left (IsReadThrough finding.violation text)) (λ finding text both. both.1)
     (c.judge.ensures.found known first.bytes first.line)
 
 pub returns-then-is_trace-clause-stops : goal.returns-then-is_trace-clause-stops
@@ -79,7 +79,7 @@ returns-clause-read g c =
     let known = g.B.Read.remaining c.args.reader.now in
     let first = c.in_ok-next_line.ensures in
     let left = g.B.Read.remaining c.judge-else-is_trace.new.reader in
-    ok_weaker c.judge-else-is_trace.result known _ (λ finding text. IsSomeAnd left (IsReadThrough finding.stop text)) (λ finding text both. both.1)
+    ok_weaker c.judge-else-is_trace.result known _ (λ finding text. IsSomeAnd left (IsReadThrough finding.violation text)) (λ finding text both. both.1)
     (c.judge-else-is_trace.ensures.found known first.bytes first.line)
 
 pub returns-clause-stops : goal.returns-clause-stops

@@ -10,6 +10,6 @@ returns g c = on_ok_weaker c.write_row.result (λ last h after.
     let layout = c.args.layout.now in
     let head = c.in_ok-write_head.ensures (length h) (c.told_count.ensures.counted h after) in
     let numbers = c.deref.ensures.value ∙ c.in_ok-numbers.ensures.left h after in
-    three_written _ _ _ _ _ _ _ (head ∙ ap (λ w. string_bytes c.args.out.now ++ verdict_head w layout (length h) c.args.stop) c.word.ensures)
+    three_written _ _ _ _ _ _ _ (head ∙ ap (λ w. string_bytes c.args.out.now ++ verdict_head w layout (length h) c.args.violation) c.word.ensures)
     (c.in_ok-write_counts.ensures.written h after) (last ∙ ap (λ ns. string_bytes c.write_counts.new.out ++ row_text layout (codes "left") ns) numbers))
     c.write_row.ensures.written

@@ -4,5 +4,5 @@ use Rattle.wq_text.proofs.line.asking_line.Goals as goal
 
 pub returns-clause-sound : goal.returns-clause-sound
 returns-clause-sound g c =
-    keeps_asked g.L.Language.grammar.most.senders g.L.Language.fits c.args.stage c.in-Some-layout.layout c.in_ok-asked.asked
+    keeps_asked g.L.Language.grammar.most.senders g.L.Language.fits c.args.awaited c.in-Some-layout.layout c.in_ok-asked.asked
     (sym c.in-Some-layout.ensures.known) c.in_ok-asked.ensures.fits

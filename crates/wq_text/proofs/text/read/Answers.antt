@@ -22,10 +22,10 @@ returns-in_err-next-clause-refused g c =
     let line = c.in-Some.line.now in
     let p = err_from_is_err_and c.from_residual.result c.from_residual.ensures.1 in
     rw (p.1, p.2) (refused_for
-    (λ (e : ScriptError). (e.line ≡ l.number) × (gives l.stage line ≡ Err e.kind))
+    (λ (e : ScriptError). (e.line ≡ l.number) × (gives l.awaited line ≡ Err e.kind))
     (IsRefusal gives c.args.text.now)
     c.in_err-next.field-0.0
-    (λ e h. faulty_line gives c.args.text.now l.rest.now line c.in-Some.after.now l.number l.stage l.asked.items e
+    (λ e h. faulty_line gives c.args.text.now l.rest.now line c.in-Some.after.now l.number l.awaited l.asked.items e
     l.invariant.short l.invariant.read c.in-Some.ensures.0 h.0 h.1)
     c.in_err-next.ensures.refused)
 
@@ -40,8 +40,8 @@ loop-line-preserved g c =
       short = l.invariant.short;
       few = omega (arith, c.in-Some.ensures.1, l.invariant.few);
       less = omega (arith, added.few, l.invariant.less);
-      sound = keeps grammar.most.senders g.L.Language.fits l.stage next.next next.one l.asked.items new next.ensures.sound added.added l.invariant.sound;
-      read = read_more (line_gives grammar) c.args.text.now l.rest.now c.in-Some.line.now c.in-Some.after.now l.number l.stage next.next
+      sound = keeps grammar.most.senders g.L.Language.fits l.awaited next.next next.one l.asked.items new next.ensures.sound added.added l.invariant.sound;
+      read = read_more (line_gives grammar) c.args.text.now l.rest.now c.in-Some.line.now c.in-Some.after.now l.number l.awaited next.next
           l.asked.items new next.one l.invariant.read c.in-Some.ensures.0 next.ensures.gives added.added;
     }
 
@@ -50,7 +50,7 @@ returns-then-not-is_empty-clause-refused g c =
     let l = c.loop-line in
     let some = sym c.is_empty.ensures ∙ c.if-not-is_empty.true in
     rw c.refused-then-not-is_empty.ensures
-    (cut_short (line_gives g.L.Language.grammar) c.args.text.now l.rest.now l.number l.stage l.asked.items _
+    (cut_short (line_gives g.L.Language.grammar) c.args.text.now l.rest.now l.number l.awaited l.asked.items _
     l.invariant.short l.invariant.read c.in_default.ensures some refl refl)
 
 pub returns-in_err-layout-clause-refused : goal.returns-in_err-layout-clause-refused
@@ -60,10 +60,10 @@ returns-in_err-layout-clause-refused g c =
     let none = sym c.is_empty.ensures ∙ c.if-not-is_empty.false in
     let p = err_from_is_err_and c.from_residual-in_err-layout.result c.from_residual-in_err-layout.ensures.1 in
     rw (p.1, p.2) (refused_for
-    (λ (e : ScriptError). (e.line ≡ l.number) × (end_fault l.stage ≡ Some e.kind))
+    (λ (e : ScriptError). (e.line ≡ l.number) × (end_fault l.awaited ≡ Some e.kind))
     (IsRefusal gives c.args.text.now)
     c.in_err-layout.field-0.0
-    (λ e h. no_header gives c.args.text.now l.rest.now l.number l.stage l.asked.items e
+    (λ e h. no_header gives c.args.text.now l.rest.now l.number l.awaited l.asked.items e
     l.invariant.short l.invariant.read c.in_default.ensures none h.0 h.1)
     c.in_err-layout.ensures.refused)
 
@@ -71,10 +71,10 @@ pub returns-clause-spells : goal.returns-clause-spells
 returns-clause-spells g c =
     let l = c.loop-line in
     let none = sym c.is_empty.ensures ∙ c.if-not-is_empty.false in
-    spelled (line_gives g.L.Language.grammar) c.args.text.now l.rest.now l.number l.stage c.in_ok-layout.layout l.asked.items
+    spelled (line_gives g.L.Language.grammar) c.args.text.now l.rest.now l.number l.awaited c.in_ok-layout.layout l.asked.items
     l.invariant.short l.invariant.read c.in_default.ensures none c.in_ok-layout.ensures.whole
 
 pub returns-clause-sound : goal.returns-clause-sound
 returns-clause-sound g c =
     let l = c.loop-line in
-    ends_sound g.L.Language.grammar.most.senders g.L.Language.fits l.stage c.in_ok-layout.layout l.asked.items c.in_ok-layout.ensures.whole l.invariant.sound
+    ends_sound g.L.Language.grammar.most.senders g.L.Language.fits l.awaited c.in_ok-layout.layout l.asked.items c.in_ok-layout.ensures.whole l.invariant.sound

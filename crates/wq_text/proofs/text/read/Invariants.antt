@@ -8,8 +8,8 @@ invariant-loop-line g l = record {
   short : length l.text ≤ most_bytes;
   few : l.number + length l.rest ≤ most_bytes + 1;
   less : length l.asked.items + 1 ≤ l.number;
-  sound : SoundAt g.L.Language.grammar.most.senders g.L.Language.fits l.stage l.asked.items;
-  read : IsReadTo (line_gives g.L.Language.grammar) l.text l.rest l.number l.stage l.asked.items;
+  sound : SoundAt g.L.Language.grammar.most.senders g.L.Language.fits l.awaited l.asked.items;
+  read : IsReadTo (line_gives g.L.Language.grammar) l.text l.rest l.number l.awaited l.asked.items;
 }
 
 abbrev pub decreases-loop-line : goal.decreases-loop-line

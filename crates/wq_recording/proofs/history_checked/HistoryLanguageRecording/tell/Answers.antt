@@ -3,7 +3,7 @@ use Rattle.std.proofs.lemmas.Result.{err_from_is_err_and}
 use Rattle.wq_words.specs.declared.event.Event.{Event}
 use Rattle.wq_check.specs.Checked.{CheckerState, IsAfter}
 use Rattle.wq_recording.specs.HistoryReport.{history_rules}
-use Rattle.wq_recording.proofs.Telling.{stops_first}
+use Rattle.wq_recording.proofs.Telling.{first_violates}
 use Rattle.wq_recording.proofs.history_checked.HistoryLanguageRecording.tell.Goals as goal
 
 pub returns-in_err-tell_event-clause-stopped : goal.returns-in_err-tell_event-clause-stopped
@@ -11,7 +11,7 @@ returns-in_err-tell_event-clause-stopped c =
     let p = err_from_is_err_and c.from_residual.result c.from_residual.ensures.1 in
     rw (p.1, p.2) (λ h after.
     let P : CheckerState → Type 0 = λ k. IsAfter k h in
-    stops_first history_rules _ h c.args.events.first _ (IsAfter c.tell_event.new.checker) c.in_err-tell_event.field-0.0
+    first_violates history_rules _ h c.args.events.first _ (IsAfter c.tell_event.new.checker) c.in_err-tell_event.field-0.0
     (subst P (sym c.in_err-tell_event.ensures.unchanged) after) (c.in_err-tell_event.ensures.refused h after))
 
 pub returns-in_ok-tell_event-2-clause-told : goal.returns-in_ok-tell_event-2-clause-told

@@ -7,18 +7,18 @@ use wq_worker::{Follow, Work};
 
 /// A work that counts its runs, and asks for nothing to follow.
 #[derive(Drop)]
-pub struct Idle {
+pub struct RunCounter {
     ran: Trail,
     count: u64,
     ghost counted: { count ≡ capped (length ran.items) },
 }
 
-impl Idle {
+impl RunCounter {
     /// A work that has run nothing.
-    pub fn new() -> Idle
+    pub fn new() -> RunCounter
         ensures none { result.ran.items ≡ [] }
     {
-        Idle {
+        RunCounter {
             ran: Trail::new(),
             count: 0,
         }
@@ -32,7 +32,7 @@ impl Idle {
     }
 }
 
-impl Work for Idle {
+impl Work for RunCounter {
     ghost log = { λ w. w.ran.items };
 
     ghost may = { λ w k follow v. follow ≡ [] };
