@@ -70,7 +70,7 @@ fn tell_rows(checker: &mut Checker, rows: &[EventRow]) -> Result<(), RowsError>
 /// # Errors
 /// `Layout` with the first of items, barriers and senders that is out of its limits; `Memory`; `Row` with the first row that may not
 /// come.
-pub fn check(
+pub fn check_rows(
     alloc: Global,
     rows: &[EventRow],
     items: u32,

@@ -2,7 +2,7 @@
 ghost use Rattle.std.specs.Prelude.{◌≡◌};
 ghost use Rattle.wq_rows.specs.Codes.{cause_code, event_code, row_code, layout_code, SaidHistory};
 
-use crate::checking::{RowError, RowsError, check};
+use crate::checking::{RowError, RowsError, check_rows};
 use crate::row::EventRow;
 use std::alloc::Global;
 use wq_check::{Cause, EventError};
@@ -58,8 +58,8 @@ fn layout_code(error: LayoutError) -> u32
     }
 }
 
-/// `check` with its answer as a number: 0 where the history is legal, 80 for want of memory, 81 to 83 for a size out of its limits,
-/// and from 96 on why a row may not come. The place of that row goes to `place`, which is else as it was.
+/// `check_rows` with its answer as a number: 0 where the history is legal, 80 for want of memory, 81 to 83 for a size out of its
+/// limits, and from 96 on why a row may not come. The place of that row goes to `place`, which is else as it was.
 pub fn check_code(
     alloc: Global,
     rows: &[EventRow],
@@ -70,7 +70,7 @@ pub fn check_code(
 ) -> u32
     ensures said { SaidHistory items barriers senders rows.now result place.old place.new }
 {
-    match check(alloc, rows, items, barriers, senders) {
+    match check_rows(alloc, rows, items, barriers, senders) {
         Ok(()) => 0,
         Err(RowsError::Memory) => 80,
         Err(RowsError::Layout(error)) => layout_code(error),

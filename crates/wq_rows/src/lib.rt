@@ -5,6 +5,6 @@ mod checking;
 mod code;
 mod row;
 
-pub use checking::{RowError, RowsError, check};
+pub use checking::{RowError, RowsError, check_rows};
 pub use code::check_code;
 pub use row::{EventRow, event_of};

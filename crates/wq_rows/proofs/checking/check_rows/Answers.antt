@@ -1,5 +1,5 @@
 use Rattle.wq_rows.proofs.Growing.{checks_of}
-use Rattle.wq_rows.proofs.checking.check.Goals as goal
+use Rattle.wq_rows.proofs.checking.check_rows.Goals as goal
 
 pub returns : goal.returns
 returns c = record {
