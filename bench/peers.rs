@@ -217,11 +217,14 @@ impl Race<'_> {
 fn main() {
     let words: Vec<String> = std::env::args().skip(1).collect();
     let numbers: Vec<u64> = words.iter().skip(1).filter_map(|word| word.parse().ok()).collect();
-    let (Some(kind), [senders, slice, total]) = (words.first(), numbers.as_slice()) else {
-        eprintln!("usage: peers array|channel|mpsc|mutex|channel8|channel64|mpsc8|mpsc64 SENDERS SLICE TOTAL");
-        std::process::exit(2);
+    // no `let .. else`: Debian 12 has rustc 1.63
+    let (kind, senders, slice, total) = match (words.first(), numbers.as_slice()) {
+        (Some(kind), &[senders, slice, total]) => (kind, senders as u32, slice as u32, total),
+        _ => {
+            eprintln!("usage: peers array|channel|mpsc|mutex|channel8|channel64|mpsc8|mpsc64 SENDERS SLICE TOTAL");
+            std::process::exit(2);
+        }
     };
-    let (senders, slice, total) = (*senders as u32, *slice as u32, *total);
     let count = (senders * slice) as usize;
     let pending: Vec<AtomicU8> = (0..count).map(|_| AtomicU8::new(0)).collect();
     let is_over = CachePadded::new(AtomicBool::new(false));

@@ -95,7 +95,7 @@ fn main() {
         };
         threads.spawn(|| loop {
             let mut queue = more.wait_while(lock.lock().unwrap(), |it| it.0.is_empty() && it.2).unwrap();
-            let Some(item) = queue.0.pop_front() else { return };
+            let item = match queue.0.pop_front() { Some(item) => item, None => return };
             queue.1[item] = false;
             drop(queue);
             @work@

@@ -2,13 +2,15 @@
 //! are those of `schedules.rows` and `draining_schedules.rows` in `checks/rows`, which say what each step replies.
 use crate::expect::{expect_each_words, expect_same, expect_words};
 use std::process::Abort;
-use wq_core::Reply::Held;
-use wq_core::Step::{Back, Begin, Chain, Check, Drain, End, Hold, Link, Push, Rest, Resume, Take};
+use wq_core::Reply::{GivenBack, Held, Linked};
+use wq_core::Step::{
+    Back, Begin, Chain, Check, Drain, End, Hold, Link, Look, Push, Rest, Resume, Take, Walk,
+};
 use wq_core::{Reply, Seat, Step, chain_and_batch, each_step_keeps_sound, first_push};
 use wq_machine::{Core, Keeper, ReplayError, StepError, replay, replay_on};
 use wq_meaning::RunError;
 use wq_text::{FaultKind, LineError, ParseError, Schedule, parse_steps};
-use wq_words::{Event, Layout, Why, check_history};
+use wq_words::{Event, Head, Layout, Why, check_history};
 
 const S0: Seat = Seat::Sender(0);
 
@@ -130,37 +132,84 @@ fn goes_on<R: Abort>(rt: &R, core: &mut Core, layout: &Layout, seat: Seat, step:
     accepted.starts_with(&begun) && check_history(layout, core.history()).is_ok()
 }
 
-/// The schedule without the steps of a seat from a place on. The number of steps until the first that does not go on.
+/// A sender queues a number that no schedule has, by steps each of which is enabled: it is pushed, or where the queue is shut given
+/// back.
+fn queues_number(core: &mut Core, sender: Seat, number: u32) -> bool {
+    if core.step(sender, Hold(number)) != Ok(Held) {
+        return false;
+    }
+    let why = match core.step(sender, Look) {
+        Ok(Reply::Looked(Head::Closed)) => Why::Closed,
+        Ok(Reply::Looked(Head::Draining)) => Why::Draining,
+        Ok(Reply::Looked(_)) => {
+            return core.step(sender, Link(number)) == Ok(Linked)
+                && matches!(core.step(sender, Push(number)), Ok(Reply::Pushed { .. }));
+        }
+        _ => return false,
+    };
+    core.step(sender, Back(number, why)) == Ok(GivenBack)
+}
+
+/// The owner makes the first of these steps that is enabled.
+fn owner_goes_on(core: &mut Core) {
+    for &step in &[End, Begin, Walk, Take] {
+        if core.step(O, step).is_ok() {
+            return;
+        }
+    }
+}
+
+/// The owner ends, begins, walks and takes for more steps than any schedule wants. Whether all that was accepted has then ended.
+fn owner_runs_out<R: Abort>(rt: &R, core: &mut Core) -> bool {
+    for _ in 0..50 {
+        owner_goes_on(core);
+    }
+    let accepted = core.accepted().expect(rt, "memory");
+    let begun = core.begun().expect(rt, "memory");
+    core.step(O, End) == Err(StepError::NotEnabled) && begun.as_slice() == accepted.as_slice()
+}
+
+/// Whether all seats but the one that stopped come to their ends: each other sender queues the barrier or the stop item, and the
+/// owner then runs out.
+fn others_end<R: Abort>(rt: &R, core: &mut Core, stopped: Seat) -> bool {
+    (stopped == S0 || queues_number(core, S0, 4))
+        && (stopped == S1 || queues_number(core, S1, 5))
+        && (stopped == O || owner_runs_out(rt, core))
+}
+
+/// The schedule without the steps of a seat from a place on. The number of steps until the first that does not go on, and whether
+/// the others come to their ends behind the last.
 fn steps_without<R: Abort + AllocGlobal>(
     rt: &R,
     schedule: &Schedule,
     stopped: Seat,
     place: usize,
-) -> usize {
+) -> (usize, bool) {
     let mut core = Core::new(rt.alloc(), *schedule.layout()).expect(rt, "memory");
     for (at, (seat, step)) in schedule.turns().iter().enumerate() {
         if at >= place && *seat == stopped {
             continue;
         }
         if !goes_on(rt, &mut core, schedule.layout(), *seat, *step) {
-            return at;
+            return (at, false);
         }
     }
+    let ends = others_end(rt, &mut core, stopped);
     drop(core);
-    schedule.turns().len()
+    (schedule.turns().len(), ends)
 }
 
 /// A seat stops at each place of a schedule, and at its end: what the others still do is legal, and runs in the order of its
-/// acceptance.
+/// acceptance, and they come to their ends.
 fn check_stops_of<R: Abort + AllocGlobal>(rt: &R, text: &str, stopped: Seat) {
     let schedule = schedule(rt, text);
     let count = schedule.turns().len();
     for place in 0..=count {
-        let steps = steps_without(rt, &schedule, stopped, place);
+        let stop = steps_without(rt, &schedule, stopped, place);
         expect_same(
             rt,
-            (text, stopped, place, steps),
-            (text, stopped, place, count),
+            (text, stopped, place, stop),
+            (text, stopped, place, (count, true)),
         );
     }
 }

@@ -86,6 +86,10 @@ fn sum_met(ledgers: &[Ledger], seat: u32, senders: u32) -> Result<Totals, Unbala
 }
 
 /// The sums of all counts of a book whose worker has this sender and this owner, by the ledgers of its other senders.
+///
+/// # Errors
+/// `Missing`, `Twice` or `Saturated` of the first sender that has such a fault; `Saturated` of the worker's own number where one
+/// of its counts is saturated, or one of the owner's.
 pub fn sum_all(
     own: Ledger,
     owner: OwnerCounts,

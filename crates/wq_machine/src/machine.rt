@@ -97,6 +97,9 @@ impl Core {
     }
 
     /// The numbers whose queueing was answered true, or that were chained, in order.
+    ///
+    /// # Errors
+    /// Memory for the list was refused.
     pub fn accepted(&self) -> Result<Vec<u32>, AllocError>
         ensures numbers { IfOk result (λ numbers. numbers.items ≡ accepted self.now.history) }
     {
@@ -110,6 +113,9 @@ impl Core {
     }
 
     /// The numbers that have begun to execute, in order.
+    ///
+    /// # Errors
+    /// Memory for the list was refused.
     pub fn begun(&self) -> Result<Vec<u32>, AllocError>
         ensures numbers { IfOk result (λ numbers. numbers.items ≡ begun self.now.history) }
     {

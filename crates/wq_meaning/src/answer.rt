@@ -61,6 +61,9 @@ pub fn modified_text(modified: Modified) -> &'static str
 }
 
 /// Writes what a close answers: how many it took, or that the queue was closed before.
+///
+/// # Errors
+/// Memory for `out` was refused, which may have a part of the text then.
 pub fn write_close(taken: Option<u64>, out: &mut String) -> Result<(), AllocError>
     ensures written { OnOk result (string_bytes out.new ≡ string_bytes out.old ++ line (close_text taken)) }
 {

@@ -14,6 +14,9 @@ pub fn either(test: bool, yes: &'static str, no: &'static str) -> &'static str
 }
 
 /// Writes a text on a line of its own.
+///
+/// # Errors
+/// Memory for `out` was refused, which may have a part of the text then.
 pub fn write_line(text: &str, out: &mut String) -> Result<(), AllocError>
     ensures written { OnOk result (string_bytes out.new ≡ string_bytes out.old ++ line text.now) }
 {
@@ -21,6 +24,9 @@ pub fn write_line(text: &str, out: &mut String) -> Result<(), AllocError>
 }
 
 /// Writes whether a drain emptied the queue, or how many are left.
+///
+/// # Errors
+/// Memory for `out` was refused, which may have a part of the text then.
 pub fn write_left(left: u64, out: &mut String) -> Result<(), AllocError>
     ensures written { OnOk result (string_bytes out.new ≡ string_bytes out.old ++ line (left_text left)) }
 {
@@ -52,6 +58,9 @@ pub(crate) fn write_name(layout: &Layout, number: u32, out: &mut String) -> Resu
 }
 
 /// Writes a word, and behind it a space and the name of a number.
+///
+/// # Errors
+/// Memory for `out` was refused, which may have a part of the text then.
 pub fn write_named(
     layout: &Layout,
     word: &str,
@@ -78,6 +87,9 @@ fn write_list(layout: &Layout, numbers: &[u32], out: &mut String) -> Result<(), 
 }
 
 /// Writes a line of a word and a list of numbers.
+///
+/// # Errors
+/// Memory for `out` was refused, which may have a part of the text then.
 pub fn write_row(
     layout: &Layout,
     word: &str,

@@ -24,6 +24,9 @@ pub struct ReportCounts {
 }
 
 /// Writes a word and a count on a line of their own.
+///
+/// # Errors
+/// Memory for `out` was refused, which may have a part of the text then.
 #[tactic(auto, unfolding(crate::specs::Report::count_line))]
 pub fn write_count(word: &str, count: u64, out: &mut String) -> Result<(), AllocError>
     ensures written { OnOk result (string_bytes out.new ≡ string_bytes out.old ++ count_line word.now count) }
@@ -33,6 +36,9 @@ pub fn write_count(word: &str, count: u64, out: &mut String) -> Result<(), Alloc
 
 impl ReportCounts {
     /// Writes the seven lines of a report.
+    ///
+    /// # Errors
+    /// Memory for `out` was refused, which may have a part of the text then.
     pub fn write(self, out: &mut String) -> Result<(), AllocError>
         ensures written { OnOk result (string_bytes out.new ≡ string_bytes out.old ++ report_text self) }
     {

@@ -16,7 +16,7 @@ use wq_worker::Station;
 #[derive(Drop, Error)]
 pub enum PoolFaultOf<K: Station> {
     /// The queue is not in its slot. Those before it are closed, and so many were executed of each as the limit says, or all.
-    /// That it is out is in no clause.
+    /// That it is out is in no clause, nor that those behind it are as they were.
     #[error("the queue {queue} is not in its slot")]
     Out {
         pool: PoolOf<K>,
@@ -129,16 +129,16 @@ impl<K: Station + Drop> PoolOf<K> {
     }
 
     /// Closes every queue and executes what is left of each, up to so many numbers of each, and then takes all apart: the works and
-    /// the books, by place. Each queue is tried once: one that is in a turn is out. The clauses speak of what was done to a queue
+    /// the books, by place. A queue is tried once, and one that is in a turn is out. The clauses speak of what was done to a queue
     /// from some state of its worker on, which goes on from what was handed in: whoever calls has not seen what lies in the pool.
     /// Where items bring values `begins` and the law `brought_goes_on` of `wq_value_pool` say that what was brought before the pool
     /// was made begins what the book has.
     ///
     /// # Errors
-    /// `Memory` before any queue is touched; `Out` for the first queue that is not in its slot; `Unfinished` for the first queue
-    /// with something left. The pool is given back, and the queues that were in their slots are laid down again, which is in no
-    /// clause. A queue whose turn was dropped stays out for good. Onto a queue that was closed no stop item can be queued, and
-    /// `run` waits for each that had none.
+    /// `Memory` before any queue is touched; `Out` for the first queue that is not in its slot, and those behind it are not
+    /// touched; `Unfinished` for the first queue with something left. The pool is given back, and the queues that were in their
+    /// slots are laid down again, which is in no clause. A queue whose turn was dropped stays out for good. Onto a queue that was
+    /// closed no stop item can be queued, and `run` waits for each that had none.
     pub fn finish(self, limit: u32) -> Result<Vec<(K::Work, K::Book)>, PoolFaultOf<K>>
     where
         K::Work: Drop,

@@ -61,8 +61,8 @@ impl<K: Station> Model for PoolOf<K> {
 
 impl<K: Station + Drop> PoolOf<K> {
     /// A pool of these queues, each known by its place, and its callers, each at its number. Each worker goes on from what it has
-    /// seen: a queue onto which something was pushed, or whose worker has taken something, is to be announced once, since no push
-    /// says `wakes` any more before its next rest.
+    /// seen: a queue onto which something was pushed, or whose worker has made a take or a drain, though it found nothing, is to be
+    /// announced once, since no push says `wakes` any more before its next rest.
     ///
     /// # Errors
     /// `NoQueue` exactly where no queue is handed in, or more than 256, else `Memory`. What was handed in is dropped after either: those
@@ -105,9 +105,9 @@ impl<K: Station + Drop> PoolOf<K> {
 
     /// Announces a queue: it waits behind all that were announced before. For the answer of a queueing `wake` does this; by hand
     /// a queue is announced that rests no more, though nobody was told of a push that woke it: one onto which something was
-    /// pushed, or whose worker has taken something, before the pool was made, and one onto which a delay table pushed. Each
-    /// announcement is picked once, so one too many costs a pick that may find nothing. It takes a place besides, and while all
-    /// places are taken `wake` waits.
+    /// pushed before the pool was made, or whose worker made a take or a drain before that, though it found nothing, and one onto
+    /// which a delay table pushed. Each announcement is picked once, so one too many costs a pick that may find nothing. It takes a
+    /// place besides, and while all places are taken `wake` waits.
     ///
     /// # Errors
     /// `NoQueue` exactly where the pool has no queue of this number. `Full` only where as many announcements as the pool has queues
@@ -162,8 +162,9 @@ impl<K: Station + Drop> PoolOf<K> {
     }
 
     /// Takes the queue that was announced first in hand. It waits until that queue is in its slot: for good where its turn was
-    /// dropped, or where this very thread has it in hand. `None` only where the ready queue could be empty, by all that this
-    /// caller has seen.
+    /// dropped, where this very thread has it in hand, or where whoever has it waits for a queue that this thread has in hand, so
+    /// put back what you have before you pick again beside other threads. `None` only where the ready queue could be empty, by all
+    /// that this caller has seen.
     pub fn pick<R: Wait>(&self, rt: &R, caller: &mut Caller) -> Option<TurnOf<K>>
         requires { IsCallerOf self.now.ready caller.old }
         ensures seen { Picks (option_map queue_in_turn result) caller.old caller.new }

@@ -210,16 +210,18 @@ impl<K: Station + Drop + Send> PoolOf<K> {
     }
 
     /// Serves what is announced, in one thread for each caller, until every queue has run its stop item since the pool was
-    /// made. Where no thread can be made, or no memory had for one, the callers serve in turn. Each caller comes back with what it
-    /// has seen. A caller that finds nothing announced gives its processor way and looks again; it does not park. With no caller it
-    /// ends at once, and so it does where each stop item has run before: what is queued after that is to be worked on by `pick`.
+    /// made. What ran in a turn of `pick` counts from its `put_back` on. Where no thread can be made, or no memory had for one, the
+    /// callers serve in turn. Each caller comes back with what it has seen. A caller that finds nothing announced gives its
+    /// processor way and looks again; it does not park, so an idle pool takes the time of a processor for each of its callers. With
+    /// no caller it ends at once, and so it does where each stop item has run before: what is queued after that is to be worked on
+    /// by `pick`.
     ///
     /// What it leaves is announced when it ends, for `pick`: a queue in hand of which something is left is announced again, and so
     /// is one that was taken off the ready queue and not looked at. One that was announced more than once may be so but once then.
     ///
     /// It does not end while a queue has no stop item to run: one that was closed without it, as all are after a `finish` that
-    /// gave the pool back, is to be worked on by `pick`. Nor does it end once a turn or a `Worked` was dropped whose queue's stop item
-    /// had not run: a thread that picks such a queue waits for it for good.
+    /// gave the pool back, is to be worked on by `pick`. Nor does it end once a turn or a `Worked` was dropped of a queue that was not
+    /// put back after its stop item had run: a thread that picks such a queue waits for it for good.
     ///
     /// # Errors
     /// None: it always answers Ok.

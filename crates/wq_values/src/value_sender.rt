@@ -205,7 +205,9 @@ impl<V: Drop> ValueSender<V> {
     /// It wakes nobody, since it answers once the barrier has run: beside an owner that parks, and on a queue in a pool, it would
     /// wait for good. There, call `flush_begin`, wake whoever executes by its answer (one that rests before it parks on `wakes`,
     /// one that serves by `serve` of `wq_value_worker` on `first`, a pool by its `wake`), and wait by `flush_done`. Within an
-    /// execution it would wait for that itself. A barrier behind the stop item waits until the queue is run on after it.
+    /// execution it would wait for that itself. A barrier behind the stop item waits until the queue is run on after it. Where
+    /// another sender queues the barrier again before this one has seen its bit clear, it waits for that one, too: a thread that
+    /// flushes wants a barrier of its own.
     pub fn flush<R: Wait>(&mut self, rt: &R, barrier: u32) -> Answer
         requires barrier { barrier < self.old.known.layout.barriers }
         ensures answer { Answers (barrier_number self.old.known.layout barrier) 0 result self.old.known self.new.known }

@@ -1,9 +1,10 @@
-//! The calls of a pool that pass a queue on leave each queue as it is: what was queued waits, and the queue is open.
+//! The calls of a pool that pass a queue on leave each queue as it is: what was queued waits, and the queue is open. So does a
+//! `finish` that finds a queue out with those behind it.
 ghost use Rattle.wq_ready.specs.Known.{IsCallerOf};
 
 use crate::expect::expect_same;
 use crate::pool::rows::check_ended;
-use crate::pool::team::{Logging, QUEUED, WAKES, filled, new_pool, queue_item, work};
+use crate::pool::team::{Logging, QUEUED, WAKES, filled, finish_out, new_pool, queue_item, work};
 use std::alloc::Global;
 use std::process::Abort;
 use wq_live::{Answer, Sender};
@@ -60,6 +61,21 @@ fn picked_and_put_back_queue_waits(rt: HostRuntime) {
     pool.put_back(&mut caller, worked);
     expect_waiting(&rt, senders.as_mut_slice(), 2);
     check_ended(&rt, pool, 3, &[0, 1, 0, 2], &[0, 1, 2]);
+    drop(senders);
+    drop(caller);
+}
+
+/// A queue in hand, and the one behind it, are as they were before a `finish` that finds the first out.
+#[test]
+fn queue_behind_one_that_is_out_waits(rt: HostRuntime) {
+    let (pool, mut caller, mut senders) = two_waiting(&rt, rt.alloc());
+    pool.announce(&rt, &mut caller, 0).expect(&rt, "room");
+    let turn = pool.pick(&rt, &mut caller).expect(&rt, "a turn");
+    let pool = finish_out(&rt, pool, 9, 0);
+    expect_waiting(&rt, senders.as_mut_slice(), 1);
+    let worked = work(&rt, turn, 9, &NoGate);
+    pool.put_back(&mut caller, worked);
+    check_ended(&rt, pool, 2, &[0, 1], &[0, 1]);
     drop(senders);
     drop(caller);
 }
