@@ -18,7 +18,7 @@ import time
 from collections import deque
 from contextlib import redirect_stderr, redirect_stdout
 from pathlib import Path
-from types import SimpleNamespace as Asked
+from types import SimpleNamespace
 
 from random_recordings import judged
 
@@ -51,6 +51,14 @@ def runs(work, number):
 
 def runs_elsewhere(work):
     return [(started(work), "#"), (ended(work), "#")]
+
+
+def on(processor, line):
+    return line.replace("[001]", f"[{processor:03}]")
+
+
+def when(time, line):
+    return line.replace("104.367288", time)
 
 
 TRACE_CMD = "      kworker/u8:1-57    [001]   104.367288: "
@@ -258,6 +266,35 @@ ROWS = [
         ],
     ),
     ("that format, where the first lines were written over", [("# latency: 0 us, #4/41080, CPU#0 | (M:desktop VP:0, #P:4)", "lost")]),
+    ("one of that format without its head", [("  kworker-57      1d..2.  104us+: workqueue_execute_end: work struct aa", "lost")]),
+    ("what looks like one of that format and is no event", [("# kworker-57      1d..2.  104us+: a comment", "#"), *whole("aa", 0)]),
+    (
+        "a time that goes back behind a line without one",
+        [*whole("aa", 0), (f"workqueue_{queued('bb').partition('workqueue_')[2]}", "queue 1"), (when("9", started("bb")), "lost")],
+    ),
+    (
+        "a time that goes back",
+        [*whole("aa", 0), (when("104.367289", queued("bb")), "queue 1"), (started("bb"), "lost")],
+    ),
+    (
+        "times of other widths, and one of a line of another queue that goes back",
+        [
+            (when("104.5", queued("aa")), "queue 0"),
+            (when("1000.25", started("aa")), "start 0"),
+            (when("1000.250", ended("aa")), "end 0"),
+            (when("1000.0250001", queued("aa", "other")), "lost"),
+        ],
+    ),
+    (
+        "a counter",
+        [
+            (when("999", queued("aa")), "queue 0"),
+            (when("1004", started("aa")), "start 0"),
+            (when("1043", TRACE_CMD + "sched_switch: a:1 [120] R ==> b:2 [120]"), "#"),
+            (when("1005", ended("aa")), "end 0"),
+            (when("1004", queued("aa")), "lost"),
+        ],
+    ),
     ("addresses that are hidden", [("# tracer: nop", "#"), (queued("(____ptrval____)"), "lost")]),
     ("a hidden address of a start", [(queued("aa"), "queue 0"), (started("(____ptrval____)"), "lost")]),
     ("a hidden address of an end", [*whole("aa", 0)[:2], (ended("(____ptrval____)"), "lost")]),
@@ -341,6 +378,34 @@ WRITTEN = [
     ("# a comment", 9, 8),
 ]
 
+ASKED = SimpleNamespace(name="mine", drained=True)
+OVERTAKEN = (4, "not legal", at(4, OVERTAKES) + at(1, OVERTAKES, "queue 0, "))
+# what may stand behind a fault on the first processor, whose verdict it leaves: what a processor loses it loses behind its line before
+LATER = [
+    ("more of it", [queued("aa"), queued("aa")]),
+    ("a loss on its processor", ["CPU:1 [LOST 12 EVENTS]"]),
+    ("a loss on its processor, in trace-cmd", ["CPU:1 [12 EVENTS DROPPED]"]),
+    ("a loss on its processor, in perf", ["kworker/u8:1-ev    57 [001]   104.367288: PERF_RECORD_LOST lost 12"]),
+    ("a loss on another one, behind a line of that", [on(2, queued("cc", "other")), LOST, LOST]),
+    ("a loss behind a line of another event", [on(2, TRACE_CMD + "sched_switch: a:1 [120] R ==> b:2 [120]"), LOST]),
+    ("a line that is not understood", [NOT_UNDERSTOOD[2]]),
+    ("a time before one behind it", [when("104.367290", queued("cc")), when("104.367289", queued("dd"))]),
+    ("a time before it, of another event", [when("9", TRACE_CMD + "sched_switch: a:1 [120] R ==> b:2 [120]")]),
+]
+# and what withdraws it
+GONE, EARLIER = "events were lost", "its time is before that of line 4"
+WITHDRAWN = [
+    ("a loss of a processor without a line", [LOST], 5, GONE),
+    ("a loss of one whose line comes later", [queued("cc"), LOST, on(2, queued("cc"))], 6, GONE),
+    ("a loss in perf", ["ev   58 [002]   104.367288: PERF_RECORD_LOST lost 12"], 5, GONE),
+    ("a loss, nobody knows where", ["[LOST EVENTS]"], 5, GONE),
+    ("a head", ["# entries-in-buffer/entries-written: 4/40   #P:4"], 5, GONE),
+    ("two losses", ["CPU:1 [LOST EVENTS]", LOST], 6, GONE),
+    ("a line that is not understood, and a loss", [NOT_UNDERSTOOD[2], LOST], 6, GONE),
+    ("a time before it", [when("104.367287", queued("cc"))], 5, EARLIER),
+    ("times that go back twice", [when("105.1", queued("cc")), when("105.0", queued("dd")), when("103", ended("aa"))], 7, EARLIER),
+]
+
 # the lines, the status or what is said in place of a verdict, the first line of that, and the lines of the trace that are printed
 VERDICTS = [
     ("the one that is next was queued twice", OVERTAKES, 4, "not legal", at(4, OVERTAKES) + at(1, OVERTAKES, "queue 0, ")),
@@ -355,13 +420,11 @@ VERDICTS = [
         at(4, TWICE, "queue 0, ") + at(5, TWICE, "queue 1, ") + at(6, TWICE, "queue 0, "),
     ),
     ("a start without a queueing", TWICE[:3] + TWICE[1:2], 4, "not legal", at(4, TWICE[:3] + TWICE[1:2])),
-    (
-        "a fault, and more behind it, and a loss",
-        [*OVERTAKES, queued("aa"), queued("aa"), LOST],
-        4,
-        "not legal",
-        at(4, OVERTAKES) + at(1, OVERTAKES, "queue 0, "),
-    ),
+    *[(f"a fault, and behind it {shows}", [*OVERTAKES, *lines], *OVERTAKEN) for shows, lines in LATER],
+    *[
+        (f"a fault, and behind it {shows}", [*OVERTAKES, *lines], f"line {line}: {why}, and nothing can be said of line 4 then", "", "")
+        for shows, lines, line, why in WITHDRAWN
+    ],
     *[(f"{event} was not recorded", lines, f"this trace has no line of workqueue_{event}", "", "") for event, lines in UNRECORDED],
     (
         "what looks like an overlap, no end before it, and a loss",
@@ -440,6 +503,8 @@ WORDS = [
     ("other", LEGAL, "", 1, "nothing was queued on other: the queues of this trace are mine"),
     ("--check mine", STRANGE, "PYTHONIOENCODING=latin-1", 4, "line 4: \\udcff\r\\u20ac"),
     ("--check mine none", b"", "", 1, "No such file or directory"),
+    ("mine /proc/self/mem", b"", "", 1, "items 65536\nlost\nline 0: what is behind it cannot be read: "),
+    ("--check mine /proc/self/mem", b"", "", 1, "line 0: what is behind it cannot be read: "),
 ]
 
 # a `wqrun` that is the model of the recordings, and one that says much before anything is read
@@ -475,14 +540,14 @@ class Converter:
     def marks(self, lines):
         """What is written, and why there can be no verdict."""
         to = io.StringIO()
-        why = self.module.write_marks((f"{line}\n" for line in lines), "mine", to, deque(maxlen=self.module.KEPT))
+        why = self.module.write_marks(self.module.Lines(f"{line}\n" for line in lines), "mine", to, deque(maxlen=self.module.KEPT))
         return to.getvalue().splitlines(), why
 
     def checks(self, lines):
         """The status or what is said in its place, and what is printed."""
         to = io.StringIO()
         with redirect_stdout(to), redirect_stderr(to):
-            status = self.module.check((f"{line}\n" for line in lines), Asked(name="mine", drained=True), deque(maxlen=self.module.KEPT))
+            status = self.module.check(self.module.Lines(f"{line}\n" for line in lines), ASKED, deque(maxlen=self.module.KEPT))
         return status, to.getvalue()
 
 
@@ -516,7 +581,7 @@ def hold_written(converter):
             yield f"{line}\n"
             written.append((to.count(), to.handed))
 
-    converter.module.write_marks(lines(), "mine", to, deque())
+    converter.module.write_marks(converter.module.Lines(lines()), "mine", to, deque())
     converter.hold("what is written while the lines come", written, [(count, handed) for _, count, handed in WRITTEN])
 
 
@@ -600,6 +665,31 @@ def hold_words(converter, folder, rows):
             converter.hold(f"wq_trace.py {words} {shell}", "no end", status)
 
 
+class Unreadable:
+    """Lines behind which nothing can be read."""
+
+    def __init__(self, lines):
+        self.lines = iter(lines)
+
+    def __iter__(self):
+        return self
+
+    def __next__(self):
+        line = next(self.lines, None)
+        if line is None:
+            raise OSError("broken")
+        return line
+
+
+def hold_unreadable(converter):
+    """What is behind a fault and cannot be read may have a notice that withdraws it."""
+    why = "what is behind it cannot be read: broken, and nothing can be said"
+    for lines, wanted in [(OVERTAKES, f"line 4: {why} of line 4 then"), (TWICE, f"line 7: {why} from there on")]:
+        with redirect_stdout(io.StringIO()):
+            got = converter.module.check(converter.module.Lines(Unreadable(f"{line}\n" for line in lines)), ASKED, deque())
+        converter.hold("a trace that cannot be read to its end", got, wanted)
+
+
 def hold_unread(converter):
     """Where nobody reads on it ends by the signal, and says nothing."""
     unread, output = os.pipe()
@@ -625,6 +715,7 @@ def main(program=None):
         hold_verdicts(converter, VERDICTS, ITEMS)
         hold_verdicts(converter, WIDE, 65536)
         hold_words(converter, folder, WORDS)
+        hold_unreadable(converter)
         hold_unread(converter)
         wqrun.write_text(LONG)
         os.environ["PATH"] = f"{folder}:{path}"

@@ -14,6 +14,8 @@ import sys
 import tempfile
 from collections import OrderedDict, deque
 from contextlib import suppress
+from decimal import Decimal
+from itertools import chain
 
 ITEMS, KEPT, NAMED = 65536, 1 << 17, 8
 EVENTS = {"queue": "queue_work", "start": "execute_start", "end": "execute_end"}
@@ -25,12 +27,24 @@ EVENT = re.compile(
 )
 # the name of one of these events where a line has that: in front, behind a time, or behind the group that perf prints
 EVENT_NAME = re.compile(r"(?:^|[^a-zA-Z_]:\s+|\)\s+|(?<!\S)workqueue:)workqueue_(?:queue_work|execute_start|execute_end):(?!\S)")
-TASK = re.compile(r"(\d+)\s+(?:\([-\s\d]*\)\s+)?\[\d+\]")
-LOST = re.compile(r"\[LOST (?:\d+ )?EVENTS\]|\[(?:\d+ )?EVENTS DROPPED\]|PERF_RECORD_LOST|entries-written: (?!(\d+)/\1\b)")
+# a line's task and its processor, and its time where it has one
+HEAD = re.compile(r"(\d+)\s+(?:\([-\s\d]*\)\s+)?\[(\d+)\](?:(?:\s+[^\s:]+)?\s+(\d+(?:\.\d+)?):)?")
+# a line's task and its processor as ftrace's latency-format has them
+LATENCY = re.compile(r"-\d+\s+\d+[^\s\d]\S{3,}\s")
+LOST = re.compile(
+    r"(?:CPU:(\d+) )?(?:\[LOST (?:\d+ )?EVENTS\]|\[(?:\d+ )?EVENTS DROPPED\])|PERF_RECORD_LOST|entries-written: (?!(\d+)/\2\b)"
+)
+DECIDES = re.compile(r"^line (\d+)\nmark \d+\ncause (\w+)", re.M)
 
 
 class Lost(Exception):
     """Why nothing can be said from a line on."""
+
+
+def head_of(line):
+    """The task of a line, its processor and its time, each where it is told."""
+    head = HEAD.search(line)
+    return (head[1], int(head[2]), head[3] and Decimal(head[3])) if head else (None, None, None)
 
 
 class Work:
@@ -68,7 +82,7 @@ class Queue:
     them those of idle works, each with its address: the one that is idle longest comes first."""
 
     def __init__(self, name):
-        self.name, self.names, self.words, self.works, self.numbers = name, set(), set(), {}, {}
+        self.name, self.names, self.words, self.works, self.numbers, self.time = name, set(), set(), {}, {}, 0
         self.free = OrderedDict.fromkeys(range(ITEMS))
 
     def number(self, address):
@@ -82,19 +96,22 @@ class Queue:
         return self.numbers[address]
 
     def mark(self, line):
-        if line.startswith("# latency: "):
+        event, (task, _, time) = EVENT.search(line.strip()), head_of(line)
+        if line.startswith("# latency: ") or event and not task and LATENCY.search(line):
             raise Lost("a trace in ftrace's latency-format, which is not read")
         if LOST.search(line):
             raise Lost("events were lost")
         if not line.endswith("\n"):
             raise Lost("a line that is cut off")
-        event, task = EVENT.search(line.strip()), TASK.search(line)
         has_no_queue = event and event[1] == "queue" and event[4] is None
         # the first test is quick, and most lines of a long trace may be of other events
         if has_no_queue or not event and "workqueue_" in line and EVENT_NAME.search(line.strip()):
             raise Lost("a line that is not understood")
         if not event:
             return "#"
+        if time is not None and time < self.time:
+            raise Lost("its time is before that of a line in front of it")
+        self.time = self.time if time is None else time
         word, address, function, name = event.groups(default="")
         self.words.add(word)
         self.names.update([name] * (word == "queue"))
@@ -103,7 +120,7 @@ class Queue:
         if address.startswith("("):
             raise Lost(f"the addresses of the works are hidden: {address}")
         work = self.works.setdefault(address, Work())
-        is_here = getattr(work, word)(function, name, task and task[1]) == self.name
+        is_here = getattr(work, word)(function, name, task) == self.name
         if not (work.waits or work.runs or work.last == self.name):
             del self.works[address]
         if not is_here:
@@ -122,15 +139,33 @@ class Queue:
         return f"nothing was queued on {self.name}: " + (f"the queues of this trace are {names}" if self.names else unseen[0])
 
 
+class Lines:
+    """The lines of a trace, each with its number, as long as they can be read; and the number of the last one."""
+
+    def __init__(self, lines):
+        self.lines, self.at = iter(lines), 0
+
+    def __iter__(self):
+        return self
+
+    def __next__(self):
+        try:
+            line = next(self.lines)
+        except OSError as error:
+            raise Lost(f"what is behind it cannot be read: {error}") from error
+        self.at += 1
+        return self.at, line
+
+
 def write_marks(lines, name, to, kept):
     """Writes a line for each line, and keeps the last of them, until nobody reads on; answers why there can be no verdict, if so. What
     a right queue may look wrong by, were an event not recorded, is held back until that event was seen, of any work."""
-    queue, at, held, needs = Queue(name), 0, [], set()
+    queue, held, needs = Queue(name), [], set()
     print(f"trace 1\nitems {ITEMS}", file=to)
     try:
-        for at, line in enumerate(lines, 1):
-            mark = queue.mark(line)
-            kept.append((at, mark, line.strip()))
+        for at, line in lines:
+            kept.append([at, "", line.strip()])
+            kept[-1][1] = mark = queue.mark(line)
             held.append(mark)
             if needs <= queue.words:
                 for it in held:
@@ -139,7 +174,7 @@ def write_marks(lines, name, to, kept):
             needs |= NEEDS.get(mark.split()[0], set())
         why = queue.unseen()
     except Lost as lost:
-        why = f"line {at}: {lost}, and nothing can be said from there on"
+        why = f"line {lines.at}: {lost}, and nothing can be said from there on"
     if why:
         print("lost", file=to, flush=True)
     return why
@@ -147,7 +182,7 @@ def write_marks(lines, name, to, kept):
 
 def named(verdict, kept):
     """The lines of the trace that a verdict names: that of the mark, and that of the item of its cause, or those of what is left."""
-    decides = re.search(r"^line (\d+)\nmark \d+\ncause (\w+)", verdict, re.M)
+    decides = DECIDES.search(verdict)
     upto, cause = (int(decides[1]) - 2, decides[2]) if decides else (sys.maxsize, "left")
     yield from (f"line {at}: {line}" for at, _, line in kept if at == upto)
     # what runs or is next is the first that is left; of an item that is left twice the last two queueings are
@@ -156,6 +191,24 @@ def named(verdict, kept):
         wanted, last = (f"start {number}", 1) if cause == "runs" else (f"queue {number}", left[place:].count(number))
         found = [f"{wanted}, line {at}: {line}" for at, mark, line in kept if mark == wanted and at < upto]
         yield from found[-last:][:1] if len(found) >= last else []
+
+
+def withdrawn(upto, kept, lines):
+    """Why nothing can be said of the line that a verdict names, where one behind it says so. A notice stands in front of the next event
+    of the processor that lost some: they were lost behind line `upto` where that processor has a line there or since."""
+    decided, since = None, set()
+    try:
+        for at, line in chain(((at, line) for at, _, line in kept if at >= upto), lines):
+            lost, (_, processor, time) = LOST.search(line), head_of(line)
+            processor = int(lost[1]) if lost and lost[1] else processor
+            if lost and (processor is None or processor not in since):
+                return f"line {at}: events were lost, and nothing can be said of line {upto} then"
+            if None not in (decided, time) and time < decided and EVENT.search(line):
+                return f"line {at}: its time is before that of line {upto}, and nothing can be said of line {upto} then"
+            decided = time if at == upto else decided
+            since.add(processor)
+    except Lost as lost:
+        return f"line {lines.at}: {lost}, and nothing can be said of line {upto} then"
 
 
 def check(lines, asked, kept):
@@ -169,7 +222,9 @@ def check(lines, asked, kept):
             faults = wqrun.communicate()[1]
         said.seek(0)
         verdict = said.read()
-    if why and wqrun.returncode != 4:
+    decides = DECIDES.search(verdict)
+    why = withdrawn(int(decides[1]) - 2, kept, lines) if decides else why if wqrun.returncode != 4 else None
+    if why:
         return why
     print(faults, file=sys.stderr, end="")
     print(verdict, *(f"{it}\n" for it in named(verdict, kept)), sep="", end="")
@@ -191,9 +246,9 @@ def main():
     sys.stdout.reconfigure(errors="backslashreplace")
     with open(asked.file, errors="surrogateescape", newline="\n") as lines:
         if asked.check:
-            return check(lines, asked, kept)
+            return check(Lines(lines), asked, kept)
         signal.signal(signal.SIGPIPE, signal.SIG_DFL)
-        return write_marks(lines, asked.name, sys.stdout, kept)
+        return write_marks(Lines(lines), asked.name, sys.stdout, kept)
 
 
 if __name__ == "__main__":
