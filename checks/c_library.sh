@@ -7,6 +7,10 @@ set -euo pipefail
 folder=$(realpath "${1:?usage: checks/c_library.sh FOLDER}")
 [ -d "$folder" ] || { echo "c_library.sh: $folder is no folder" >&2; exit 1; } # else the library would be a file of that name
 cd "$(dirname "${BASH_SOURCE[0]}")/.."
+read -ra cc <<<"${CC:-cc}" # which may have words behind it, as of ccache
+for it in "${cc[0]}" ar; do # before the proofs
+    command -v "$it" >/dev/null || { echo "c_library.sh: there is no $it" >&2; exit 1; }
+done
 kit=$(dirname "$(dirname "$(realpath "$(command -v rt)")")")
 backend=${BACKEND:-llvm}
 
@@ -62,6 +66,6 @@ cp crates/wq_c/out/libwq_c.a "$kit/c/liblibc_c.a" "$made"
 install -m 644 "$made/libyeangvos.a" "$folder"
 echo '{ global: wq_c_*; local: *; };' >"$made/exports"
 shared=libyeangvos.so.$(sed -n 's/^#define WQ_MAJOR \([0-9]*\).*/\1/p' include/wq.h)
-"${CC:-cc}" -shared -Wl,-soname,"$shared" -Xlinker "--version-script=$made/exports" -o "$folder/$shared" \
+"${cc[@]}" -shared -Wl,-soname,"$shared" -Xlinker "--version-script=$made/exports" -o "$folder/$shared" \
     -Wl,--whole-archive "$folder/libyeangvos.a" -Wl,--no-whole-archive
 ln -sf "$shared" "$folder/libyeangvos.so"

@@ -15,7 +15,8 @@
  * and wq_worker_stop is a cancellation point, and no other call is one; after it another thread may call them.
  *
  * The worker's memory is zero before its first start: static, or = {0}, in C++ = {}. A start that answers an error writes nothing there,
- * but where that is WQ_NO_THREAD, and a wq_worker_stop behind it reads it.
+ * but where that is WQ_NO_THREAD. Behind that wq_worker_drain, wq_worker_resume and wq_worker_finish do nothing, and wq_worker_stop
+ * answers what wq_release does: WQ_NOT_DONE until the owner itself has closed the queue and executed what was accepted.
  *
  * The worker's memory stays until each sender's last call through it has returned, also one that began before wq_worker_stop did: join
  * the senders' threads, then free it. So no queueing has to announce itself to the worker.

@@ -55,8 +55,12 @@ static void no_thread(void) {
     /* there is no thread to join, the queue is as it was, and the owner executes it without a worker */
     CHECK(wq_worker_stop(&worker) == WQ_NOT_DONE && wq_worker_start(&worker, &owner, 4, run, NULL) == WQ_NO_THREAD);
     CHECK(wq_take(&owner, &number) == WQ_OK && number == 1 && wq_begin(&owner, &number) == WQ_OK && number == 2);
-    CHECK(wq_end(&owner) == WQ_OK && wq_close(&owner, &number) == WQ_OK && number == 0);
-    CHECK(wq_release(&owner) == WQ_OK && wq_release(&sender) == WQ_OK);
+    CHECK(wq_end(&owner) == WQ_OK);
+    wq_worker_drain(&worker), wq_worker_resume(&worker), wq_worker_finish(&worker);
+    CHECK(wq_worker_queue(&worker, &sender, 3) == (WQ_QUEUED | WQ_FIRST)); /* it is open, and nobody rests */
+    CHECK(wq_close(&owner, &number) == WQ_OK && number == 1 && wq_worker_stop(&worker) == WQ_NOT_DONE);
+    CHECK(wq_begin(&owner, &number) == WQ_OK && number == 3 && wq_end(&owner) == WQ_OK);
+    CHECK(wq_worker_stop(&worker) == WQ_OK && wq_worker_stop(&worker) == WQ_NO_SEAT && wq_release(&sender) == WQ_OK);
 }
 
 static uint32_t opened, ran;

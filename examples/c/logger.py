@@ -45,7 +45,8 @@ def run_all():
     return ran
 
 
-threads = [threading.Thread(target=write_lines, args=(thread,)) for thread in range(THREADS)]
+# daemons, since they wait for the owner, who may end by an error
+threads = [threading.Thread(target=write_lines, args=(thread,), daemon=True) for thread in range(THREADS)]
 for thread in threads:
     thread.start()
 left = THREADS * (LINES // 2 + 1)  # a barrier of each thread
