@@ -1,2 +1,3 @@
 pub mod Messages
 pub mod Met
+pub mod Sums

@@ -1,8 +1,8 @@
-//! The examples of a user's own threads, of messages that they hand over, and of a worker.
+//! The examples of a user's own threads, of messages that they hand over, and of workers.
 use crate::expect::expect_same;
 use crate::latch::Latch;
 use example_threads::{queue_and_destroy, run, run_served};
-use example_values::run as hand_over;
+use example_values::{run as hand_over, run_summed};
 use std::alloc::Global;
 use std::process::Abort;
 use std::sync::Wait;
@@ -107,6 +107,17 @@ fn all_are_served(rt: HostRuntime) {
 #[test]
 fn all_messages_are_handed_over(rt: HostRuntime) {
     check_all_runs(&rt, rt.alloc(), Example::Messages);
+}
+
+/// The values of both senders are added up.
+#[test]
+fn all_values_are_summed(rt: HostRuntime) {
+    let layout = Layout::new(4, 1, 3).expect(&rt, "a layout");
+    let Ok(summed) = run_summed(rt.alloc(), layout) else {
+        panic!(rt; "there is no sum");
+    };
+    expect_same(&rt, (summed.sum, summed.totals.executed), (43_210, 4));
+    drop(summed);
 }
 
 /// The worker runs both items within its limit.

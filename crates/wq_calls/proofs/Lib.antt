@@ -42,6 +42,7 @@ pub mod Handed
 pub mod HandedOver
 pub mod OwnerStays
 pub mod Refused
+pub mod FoundPending
 pub mod NextTold
 pub mod PhaseKept
 pub mod Refusals

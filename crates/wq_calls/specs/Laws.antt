@@ -1,7 +1,7 @@
 -- What follows from what the calls of a queue say.
-use Rattle.std.specs.Prelude.{◌≡◌, ℕ, List, [], ◌∷◌}
+use Rattle.std.specs.Prelude.{◌≡◌, ℕ, ◌≤◌, List, [], ◌∷◌, length, take}
 use Rattle.wq_words.specs.declared.event.Event.{Event}
-use Rattle.wq_words.specs.History.{accepted, begun, ended, running, closed, shut, IsRunning, IsClosed, IsShut}
+use Rattle.wq_words.specs.History.{accepted, begun, ended, running, closed, shut, IsPending, IsRunning, IsClosed, IsShut}
 use Rattle.wq_words.specs.Seen.{own}
 use Rattle.wq_words.specs.declared.answer.Answer.{Answer}
 use Rattle.wq_words.specs.declared.answer.Answer.TheVariants.{Queued}
@@ -18,6 +18,11 @@ queued_number k _ = []
 abbrev pub pushed_number : ℕ → Posted → List ℕ
 pushed_number k (posted.Queued is_first is_waking) = k ∷ []
 pushed_number k _ = []
+
+-- The number was pending behind what was seen before a call: so it was after some beginning of what is seen after it, not shorter
+-- than what was seen before.
+abbrev pub WasPending : ℕ → List Event → List Event → Type 0
+WasPending k before after = (moment : ℕ) × (length before ≤ moment) × IsPending (take moment after) k
 
 -- what was seen first has accepted, begun and ended all that the later has, and all that it accepted of each seat
 pub record IsStillEnd (earlier later : List Event) : Type 0 where

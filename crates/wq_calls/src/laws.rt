@@ -14,7 +14,7 @@ ghost use Rattle.wq_words.specs.Seen.{own, owner_seat};
 ghost use Rattle.wq_calls.specs.Known.{Known, Sees};
 ghost use Rattle.wq_calls.specs.Answers.{TestsAndSets, Answers, Posts, Chains};
 ghost use Rattle.wq_calls.specs.Counts.{sender_counts, owner_counts};
-ghost use Rattle.wq_calls.specs.Laws.{queued_number, pushed_number, IsStillEnd, IsStillOwned};
+ghost use Rattle.wq_calls.specs.Laws.{queued_number, pushed_number, WasPending, IsStillEnd, IsStillOwned};
 ghost use Rattle.wq_calls.specs.declared.value_answer.ValueAnswer.{ValueAnswer};
 ghost use Rattle.wq_calls.specs.KnownWith.{KnownWith, Learnt, answer_of, BringsOrReturns, BringsNothing, ChainsOrReturns};
 ghost use Rattle.wq_calls.specs.OwnBrought.{own_brought, queued_value, queued_nothing};
@@ -111,6 +111,14 @@ pub fn no_longer_held()
 pub fn closed_is_closed()
     ensures queued { (k tries : ℕ) (a : Answer) (old new : Known) → Answers k tries a old new → a ≡ answer.Closed → IsClosed new.seen }
     ensures posted { (k tries : ℕ) (a : Posted) (old new : Known) → Posts k tries a old new → a ≡ posted.Closed → IsClosed new.seen }
+{}
+
+/// What a queueing or a chaining is answered Pending for, or a hold refuses, was pending.
+pub fn pending_was_pending()
+    ensures queued { (k tries : ℕ) (a : Answer) (old new : Known) → Answers k tries a old new → a ≡ answer.Pending
+        → WasPending k old.seen new.seen }
+    ensures held { (k : ℕ) (old new : Known) → TestsAndSets k false old new → WasPending k old.seen new.seen }
+    ensures chained { (k : ℕ) (a : Answer) (old new : Known) → Chains k a old new → a ≡ answer.Pending → WasPending k old.seen new.seen }
 {}
 
 /// Where a seat sees more and makes no event, as at a meeting, it has counted what it had counted.

@@ -20,3 +20,4 @@ pub use Rattle.wq_worker.specs.State
 pub use Rattle.wq_worker.specs.Step
 pub use Rattle.wq_worker.specs.Rows
 pub use Rattle.wq_worker.specs.Destroy
+pub use Rattle.wq_worker.specs.Silent

@@ -15,4 +15,4 @@ pub use value_follow::ValueFollow;
 pub use value_work::ValueWork;
 pub use value_worker::ValueWorker;
 pub use wq_ledger::{Ledger, Totals, Unbalanced};
-pub use wq_worker::{Drained, Ran, Unbuilt, Unfinished};
+pub use wq_worker::{Drained, Ran, Unbuilt, Unfinished, nothing_is_asked};

@@ -16,6 +16,6 @@ pub use wq_calls::{
     BuildError, Done, OwnerCounts, SenderCounts, Spins, ValueAnswer, chained_brings,
     chained_is_accepted, closed_is_closed, counts_stay, executions_grow, own_events_grow,
     own_events_stay, own_is_accepted, own_values_stay, owner_stays, owner_values_stay,
-    queued_brings, queued_brings_nothing, queued_is_accepted,
+    pending_was_pending, queued_brings, queued_brings_nothing, queued_is_accepted,
 };
 pub use wq_words::Answer;
