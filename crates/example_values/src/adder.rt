@@ -1,6 +1,6 @@
 //! A work that adds up the values of the items that it runs.
-ghost use Rattle.std.specs.Prelude.{◌≡◌, ◌∷◌, ◌++◌, [], IfSome};
-ghost use Rattle.example_values.specs.Sums.{sum_of};
+ghost use Rattle.std.specs.Prelude.{◌≡◌, ◌∷◌, ◌++◌, []};
+ghost use Rattle.example_values.specs.Sums.{IsSumOf};
 
 use std::marker::Model;
 use value_trail::ValueTrail;
@@ -9,7 +9,7 @@ use wq_value_worker::{ValueFollow, ValueWork};
 /// The sum of the values that were run. Which those were, and what came back, contracts alone see.
 #[derive(Drop)]
 pub struct Adder {
-    // none once it does not fit
+    // None once it does not fit
     sum: Option<u64>,
     ran: ValueTrail<u32>,
     came_back: ValueTrail<u32>,
@@ -20,7 +20,7 @@ impl Model for Adder {
 
     ghost Value = { AdderState };
 
-    ghost view = { λ w. record { sum = w.sum; ran = w.ran.items; came_back = w.came_back.items } };
+    ghost view = { λ w. record { ran = w.ran.items; came_back = w.came_back.items } };
 
     ghost invariant = { λ w. IsSumOf w.ran.items w.sum };
 }
@@ -48,9 +48,9 @@ impl Adder {
         };
     }
 
-    /// The sum of all values that were run, where it fits into 64 bits.
+    /// The sum of all values that were run, or None where it does not fit into 64 bits.
     pub fn sum(&self) -> Option<u64>
-        ensures { IfSome result (λ sum. sum ≡ sum_of self.now.ran) }
+        ensures { IsSumOf self.now.ran result }
     {
         self.sum
     }

@@ -1,21 +1,25 @@
 //! A worker that adds up the values that two senders queue, call by call in one thread.
-ghost use Rattle.std.specs.Prelude.{◌≡◌, ◌≤◌, [], length, IfOk};
+ghost use Rattle.std.specs.Prelude.{◌≡◌, ◌+◌, ◌<◌, ◌≤◌, [], length, IfOk, sum};
 ghost use Rattle.wq_value_worker.specs.History.{accepted, ended, IsRunning};
 ghost use Rattle.wq_value_worker.specs.Legal.{IsLegal, IsComplete};
-ghost use Rattle.wq_value_worker.specs.Seen.{own};
+ghost use Rattle.wq_value_worker.specs.Known.{IsSame};
+ghost use Rattle.wq_value_worker.specs.Seen.{own, owner_seat};
 ghost use Rattle.wq_value_worker.specs.Book.{IsLedgerOf};
+ghost use Rattle.wq_value_worker.specs.OwnBrought.{queued_value};
 ghost use Rattle.wq_value_worker.specs.Returned.{pairs_of};
 ghost use Rattle.wq_value_worker.specs.Silent.{AddsNoNumber};
 ghost use Rattle.wq_value_worker.specs.State.{IsSameWorker};
-ghost use Rattle.example_values.specs.Sums.{sum_of};
+ghost use Rattle.wq_value_worker.specs.Valued.{values_among};
+ghost use Rattle.example_values.specs.Sums.{sum_of, own_sum};
 
 use crate::adder::Adder;
 use std::alloc::Global;
 use thiserror::Error;
 use wq_value_worker::{
     Ledger, Totals, Unbalanced, Unbuilt, ValueBook, ValueWorker, nothing_is_asked,
+    pairs_have_values,
 };
-use wq_values::ValueSender;
+use wq_values::{ValueAnswer, ValueSender, own_values_match, queued_brings, values_add_up};
 use wq_words::Layout;
 
 /// What a queue came to that was destroyed.
@@ -23,6 +27,8 @@ use wq_words::Layout;
 pub struct Summed {
     /// The sum of the values of all items that ran.
     pub sum: u64,
+    /// The sum of the values that the first sender was answered Queued for, and that of the second.
+    pub queued: (u64, u64),
     /// The sums of the counts of the worker and of both senders.
     pub totals: Totals,
     /// The book, with the whole history of the queue and what each number brought, which contracts alone see.
@@ -52,17 +58,41 @@ impl From<Unbuilt<Adder>> for Unsummed {
     }
 }
 
-/// Two senders queue two items each. What is not accepted comes back in the answer, and is dropped with it.
-fn queue_four(first: &mut ValueSender<u32>, second: &mut ValueSender<u32>)
-    requires first { 4 ≤ first.old.known.layout.items }
-    requires second { 4 ≤ second.old.known.layout.items }
-    ensures first { first.new.known.queue ≡ first.old.known.queue }
-    ensures second { second.new.known.queue ≡ second.old.known.queue }
+/// The value where it was queued, else 0.
+fn queued_of(answer: &ValueAnswer<u32>, value: u32) -> u32
+    ensures { result ≡ sum (values_among (queued_value value answer.now)) }
 {
-    first.queue_value(0, 10, 1);
-    second.queue_value(1, 200, 1);
-    first.queue_value(2, 3_000, 1);
-    second.queue_value(3, 40_000, 1);
+    match answer {
+        ValueAnswer::Queued { .. } => value,
+        ValueAnswer::Pending(_)
+        | ValueAnswer::Closed(_)
+        | ValueAnswer::Contended(_)
+        | ValueAnswer::Draining(_) => 0,
+    }
+}
+
+/// Queues an item. Answers its value where it is queued, else 0, and what was not queued is dropped with the answer.
+fn queue_one(sender: &mut ValueSender<u32>, item: u32, value: u32) -> u32
+    requires { item < sender.old.known.layout.items }
+    ensures same { IsSame sender.old.known sender.new.known }
+    ensures sum { own_sum sender.old.known.number sender.new.known.seen sender.new.brought
+        ≡ own_sum sender.old.known.number sender.old.known.seen sender.old.brought + result }
+{
+    queued_brings::<u32>();
+    let answer = sender.queue_value(item, value, 1);
+    queued_of(&answer, value)
+}
+
+/// Queues two items, and answers the sum of the values of those that are queued.
+fn queue_two(sender: &mut ValueSender<u32>, one: (u32, u32), other: (u32, u32)) -> u64
+    requires one { one.0 < sender.old.known.layout.items }
+    requires other { other.0 < sender.old.known.layout.items }
+    ensures same { IsSame sender.old.known sender.new.known }
+    ensures sum { own_sum sender.old.known.number sender.new.known.seen sender.new.brought
+        ≡ own_sum sender.old.known.number sender.old.known.seen sender.old.brought + result }
+{
+    let first = queue_one(sender, one.0, one.1);
+    u64::from(first) + u64::from(queue_one(sender, other.0, other.1))
 }
 
 /// Executes two items, if so many wait. The worker queues nothing by that, since its work asks for nothing.
@@ -114,6 +144,7 @@ fn execute(mut worker: ValueWorker<u32, Adder>) -> Result<(u64, ValueBook<u32>),
     ensures layout { IfOk result (λ r. r.1.book.layout ≡ worker.worker.layout) }
     ensures sum { IfOk result (λ r. r.0 ≡ sum_of (pairs_of (accepted r.1.book.seen) r.1.brought)) }
     ensures of_worker { IfOk result (λ r. accepted (own 2 r.1.book.seen) ≡ []) }
+    ensures chained { IfOk result (λ r. accepted (own owner_seat r.1.book.seen) ≡ accepted (own owner_seat worker.worker.seen)) }
 {
     run_two(&mut worker);
     destroy(worker)
@@ -126,29 +157,47 @@ fn run(
     mut second: ValueSender<u32>,
 ) -> Result<Summed, Unsummed>
     requires items { 4 ≤ worker.worker.layout.items }
+    requires senders { worker.worker.layout.senders ≡ 3 }
     requires number { worker.worker.number ≡ 2 }
     requires idle { ¬ IsRunning worker.worker.seen }
     requires of_worker { accepted (own 2 worker.worker.seen) ≡ [] }
+    requires chained { accepted (own owner_seat worker.worker.seen) ≡ [] }
     requires first { (first.known.queue ≡ worker.worker.queue) × (first.known.layout ≡ worker.worker.layout) }
     requires second { (second.known.queue ≡ worker.worker.queue) × (second.known.layout ≡ worker.worker.layout) }
+    requires numbers { (first.known.number ≡ 0) × (second.known.number ≡ 1) }
+    requires unsent { (own_sum first.known.number first.known.seen first.brought ≡ 0)
+        × (own_sum second.known.number second.known.seen second.brought ≡ 0) }
     ensures layout { IfOk result (λ r. r.book.book.layout ≡ worker.worker.layout) }
     ensures legal { IfOk result (λ r. IsLegal r.book.book.layout r.book.book.seen) }
     ensures complete { IfOk result (λ r. IsComplete r.book.book.seen) }
     ensures sum { IfOk result (λ r. r.sum ≡ sum_of (pairs_of (accepted r.book.book.seen) r.book.brought)) }
+    ensures queued { IfOk result (λ r. r.sum ≡ r.queued.0 + r.queued.1) }
     ensures ran { IfOk result (λ r. r.totals.executed ≡ length (accepted r.book.book.seen)) }
     ensures of_worker { IfOk result (λ r. accepted (own 2 r.book.book.seen) ≡ []) }
 {
-    queue_four(&mut first, &mut second);
+    let queued = (
+        queue_two(&mut first, (0, 10), (2, 3_000)),
+        queue_two(&mut second, (1, 200), (3, 40_000)),
+    );
     let (sum, mut book) = execute(worker)?;
     let one = book.meet(&mut first);
     let other = book.meet(&mut second);
     book.legal();
+    own_values_match::<u32>();
+    values_add_up::<u32>();
+    pairs_have_values::<u32>();
     let totals = balance(&book, one, other)?;
-    Ok(Summed { sum, totals, book })
+    Ok(Summed {
+        sum,
+        queued,
+        totals,
+        book,
+    })
 }
 
 /// Two senders queue four items with values on a new queue, whose worker adds them up. Where it is Ok the sum is that of the values
-/// of all that was accepted, each of which ran once, and the worker itself queued nothing.
+/// of all that was accepted, each of which ran once, which are those that the two senders were answered Queued for; the worker
+/// itself queued nothing.
 ///
 /// # Errors
 /// `Memory` where memory was refused, `Left` where the destroy came to its limit, `TooLarge` where the sum does not fit, and
@@ -160,6 +209,7 @@ pub fn run_summed(alloc: Global, layout: Layout) -> Result<Summed, Unsummed>
     ensures legal { IfOk result (λ r. IsLegal r.book.book.layout r.book.book.seen) }
     ensures complete { IfOk result (λ r. IsComplete r.book.book.seen) }
     ensures sum { IfOk result (λ r. r.sum ≡ sum_of (pairs_of (accepted r.book.book.seen) r.book.brought)) }
+    ensures queued { IfOk result (λ r. r.sum ≡ r.queued.0 + r.queued.1) }
     ensures ran { IfOk result (λ r. r.totals.executed ≡ length (accepted r.book.book.seen)) }
     ensures of_worker { IfOk result (λ r. accepted (own 2 r.book.book.seen) ≡ []) }
 {

@@ -1,6 +1,6 @@
 //! The calls, and whether each gives its right answer or says that memory is wanting.
 use crate::checkers::{check_events, check_marks};
-use crate::examples::{run_messages, run_pool, run_served, run_threads};
+use crate::examples::{run_messages, run_pool, run_served, run_summed, run_threads};
 use crate::log::write_logs;
 use crate::pool::serve_pool;
 use crate::streams::Page;
@@ -38,6 +38,7 @@ pub enum Call {
     Threads,
     Served,
     Messages,
+    Summed,
     OwnPool,
     Events,
     Marks,
@@ -92,6 +93,7 @@ pub const CALLS: &[(&str, Call)] = &[
     ("threads", Call::Threads),
     ("served", Call::Served),
     ("messages", Call::Messages),
+    ("summed", Call::Summed),
     ("own_pool", Call::OwnPool),
     ("events", Call::Events),
     ("marks", Call::Marks),
@@ -324,6 +326,7 @@ pub fn make<T: Threads + Wait + Sync>(rt: &T, alloc: Global, call: Call) -> Said
         Call::Threads => run_threads(rt, alloc),
         Call::Served => run_served(rt, alloc),
         Call::Messages => run_messages(rt, alloc),
+        Call::Summed => run_summed(alloc),
         Call::OwnPool => run_pool(rt, alloc),
         Call::Events => check_events(alloc),
         Call::Marks => check_marks(alloc),

@@ -1,8 +1,8 @@
-//! The examples whose threads meet in a join. Each comes to its whole end also where a thread is wanting, by those that are there.
+//! The examples. Each whose threads meet in a join comes to its whole end also where a thread is wanting, by those that are there.
 use crate::calls::{Said, right};
 use example_pool::{Ended, Unended};
 use example_threads::Unserved;
-use example_values::Met;
+use example_values::{Met, Unsummed};
 use std::alloc::Global;
 use std::sync::Wait;
 use std::thread::Threads;
@@ -58,6 +58,22 @@ pub fn run_messages<T: Threads + Wait + Sync>(rt: &T, alloc: Global) -> Said {
     match example_values::run(rt, alloc, layout, 4) {
         Ok(met) => handed_over(&met),
         Err(BuildError::Memory) => Said::Memory,
+    }
+}
+
+/// Two senders of two items each, and a worker that adds up their values.
+pub fn run_summed(alloc: Global) -> Said {
+    let Ok(layout) = Layout::new(4, 1, 3) else {
+        return Said::Wrong;
+    };
+    match example_values::run_summed(alloc, layout) {
+        Ok(summed) => {
+            let is_right = summed.sum == 43_210 && summed.queued == (3_010, 40_200);
+            drop(summed);
+            right(is_right)
+        }
+        Err(Unsummed::Memory) => Said::Memory,
+        Err(Unsummed::Left(_) | Unsummed::TooLarge | Unsummed::Unbalanced(_)) => Said::Wrong,
     }
 }
 

@@ -117,6 +117,7 @@ fn all_values_are_summed(rt: HostRuntime) {
         panic!(rt; "there is no sum");
     };
     expect_same(&rt, (summed.sum, summed.totals.executed), (43_210, 4));
+    expect_same(&rt, summed.queued, (3_010, 40_200));
     drop(summed);
 }
 

@@ -2,7 +2,7 @@
 use Rattle.wq_calls.proofs.Common.{◌≡◌, ℕ, ◌+◌, ◌≤◌, Bool, true, false, cond, List, [], ◌∷◌, ◌++◌, length, take, Option, Some, None, slice_get, sym}
 use Rattle.wq_calls.proofs.Common.{refl, ap, ◌∙◌, subst, arith, append_assoc, append-nil, sum_by-append, filter_map-append, Layout, Event, Hold, Busy}
 use Rattle.wq_calls.proofs.Common.{Push, Back, Take, Close, Drain, Begin, End, ChainBusy, accepted, accepted_by, begun, begun_by, ended, is_close}
-use Rattle.wq_calls.proofs.Common.{IsClosed, IsShut, IsRunning, running, listed, IsLegal, take-length, keeps_headline, legal_front, legal_next}
+use Rattle.wq_calls.proofs.Common.{IsClosed, IsShut, IsRunning, listed, IsLegal, take-length, keeps_headline, legal_front, legal_next}
 use Rattle.wq_calls.proofs.Common.{in_order, prefix_length, Part, Owns, HasStage, IsClosed_from_closed, closed_shuts}
 use Rattle.wq_calls.proofs.Common.{Owning as Inside, Known, batch, owner_view, Stands, OwnsQueue, kept_batch, nil_from_length}
 use Rattle.std.specs.Prelude.{filter_map}

@@ -1,29 +1,13 @@
 -- What was found pending was pending.
-use Rattle.wq_calls.proofs.Common.{◌≡◌, ℕ, ◌≤◌, suc, zero, Bool, true, false, cond, List, [], ◌∷◌, ◌++◌, length, Some, slice_get, sym, subst, arith, take}
+use Rattle.wq_calls.proofs.Common.{◌≡◌, ℕ, false, List, [], ◌∷◌, Some, slice_get, sym, subst, take}
 use Rattle.wq_calls.proofs.Common.{Event, Known, Sees, TestsAndSets, Answer, Answers}
 use Rattle.wq_words.specs.History.{IsPending}
 use Rattle.wq_words.specs.Legal.{MayFollow}
 use Rattle.wq_calls.specs.Answers.{Chains}
-use Rattle.std.specs.Prelude.{filter}
+use Rattle.wq_words.proofs.Lists.{alone, behind}
 use Rattle.wq_words.specs.declared.event.Event.TheVariants.{Busy, ChainBusy}
 use Rattle.wq_words.specs.declared.answer.Answer.TheVariants as answer
 use Rattle.wq_calls.specs.Laws.{WasPending}
-
-abbrev Stands : Event → List Event → Type 0
-Stands e xs = (place : ℕ) × (slice_get xs place ≡ Some e)
-
-one_more : (b : Bool) (x : Event) (xs rest : List Event) (e : Event) → (rest ≡ e ∷ [] → Stands e xs) → cond b (x ∷ rest) rest ≡ e ∷ [] → Stands e (x ∷ xs)
-one_more true x xs rest e more is = (zero, cc)
-one_more false x xs rest e more is = let it = more is in (suc it.0, it.1)
-
--- what alone passes stands somewhere
-alone : (p : Event → Bool) (xs : List Event) (e : Event) → filter p xs ≡ e ∷ [] → Stands e xs
-alone p [] e is = absurd (cc)
-alone p (x ∷ xs) e is = one_more (p x) x xs (filter p xs) e (λ t. alone p xs e t) is
-
-behind : (xs ys : List Event) (e : Event) → Stands e ys → (place : ℕ) × (length xs ≤ place) × (slice_get (xs ++ ys) place ≡ Some e)
-behind [] ys e at = (at.0, omega arith, at.1)
-behind (x ∷ xs) ys e at = let it = behind xs ys e at in (suc it.0, omega (arith, it.1), it.2)
 
 -- a seat's only new event, which may follow only where k is pending
 pub found_pending : (k n : ℕ) (e : Event) (old new : Known) → ((h : List Event) → MayFollow h e → IsPending h k) → Sees (e ∷ []) n old new

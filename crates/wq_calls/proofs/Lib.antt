@@ -50,3 +50,4 @@ pub mod Others
 pub mod ValueJoined
 pub mod ValueBooks
 pub mod HeldAfter
+pub mod ValuesBySeat

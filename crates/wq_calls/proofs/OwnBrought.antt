@@ -23,7 +23,7 @@ onto (Some x) us vs = refl
 
 module _ {V : Type 0} (s : ℕ) where
   -- the same, an event after the other
-  abbrev own_row : List Event → List (Option V) → List (Option V)
+  abbrev pub own_row : List Event → List (Option V) → List (Option V)
   own_row [] bs = []
   own_row (e ∷ es) bs = cons_option (if seat_of e == s then value_if (accepted_by e) (first_in bs) else None) (own_row es (left_of (accepted_by e) bs))
 
@@ -31,7 +31,7 @@ module _ {V : Type 0} (s : ℕ) where
   value_first None b bs hs = refl
   value_first (Some k) b bs hs = refl
 
-  is_row : (es : List Event) (bs hs : List (Option V)) → filter_map (own_brought_by s) (paired es bs hs) ≡ own_row es bs
+  pub is_row : (es : List Event) (bs hs : List (Option V)) → filter_map (own_brought_by s) (paired es bs hs) ≡ own_row es bs
   is_row [] bs hs = refl
   is_row (e ∷ es) bs hs = λ i. cons_option (if seat_of e == s then value_first (accepted_by e) (begun_by e) bs hs i else None)
       (is_row es (left_of (accepted_by e) bs) (left_of (begun_by e) hs) i)

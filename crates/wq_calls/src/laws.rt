@@ -1,6 +1,6 @@
 //! What follows from what the calls of a queue say, in the form in which a caller needs it. These functions compute nothing:
 //! each one's contract is a law, which a caller has in hand after the call.
-ghost use Rattle.std.specs.Prelude.{◌≡◌, ◌≢◌, ℕ, Bool, false, List, [], ◌∷◌, ◌++◌};
+ghost use Rattle.std.specs.Prelude.{◌≡◌, ◌≢◌, ℕ, Bool, false, List, [], ◌∷◌, ◌++◌, length, Option, sum_by};
 ghost use Rattle.std.specs.List.{Contains};
 ghost use Rattle.wq_words.specs.declared.answer.Answer.{Answer};
 ghost use Rattle.wq_words.specs.declared.answer.Answer.TheVariants as answer;
@@ -10,7 +10,10 @@ ghost use Rattle.wq_words.specs.declared.event.Event.TheVariants.{Back};
 ghost use Rattle.wq_words.specs.declared.event.Why.{Why};
 ghost use Rattle.wq_words.specs.declared.event.Event.{Event};
 ghost use Rattle.wq_words.specs.History.{accepted, begun, ended, running, Holds, IsClosed, IsShut};
-ghost use Rattle.wq_words.specs.Seen.{own, owner_seat};
+ghost use Rattle.wq_words.specs.declared.layout.Layout.{Layout};
+ghost use Rattle.wq_words.specs.Legal.{IsLegal};
+ghost use Rattle.wq_words.specs.Seen.{own, owner_seat, over_seats};
+ghost use Rattle.wq_words.specs.Valued.{values_among};
 ghost use Rattle.wq_calls.specs.Known.{Known, Sees};
 ghost use Rattle.wq_calls.specs.Answers.{TestsAndSets, Answers, Posts, Chains};
 ghost use Rattle.wq_calls.specs.Counts.{sender_counts, owner_counts};
@@ -45,6 +48,13 @@ pub fn own_events_grow()
 /// What was accepted of a seat was accepted.
 pub fn own_is_accepted()
     ensures among { (s k : ℕ) (h : List Event) → Contains (accepted (own s h)) k → Contains (accepted h) k }
+{}
+
+/// What was accepted of a queue is, together, what was accepted of its owner and of each of its senders: so says any sum over it.
+/// What is added up for a number may be one or none, so that it also says how often each was accepted.
+pub fn accepted_adds_up()
+    ensures sums { (f : ℕ → ℕ) (layout : Layout) (h : List Event) → IsLegal layout h
+        → sum_by f (accepted h) ≡ over_seats layout (λ s. sum_by f (accepted (own s h))) }
 {}
 
 /// Nobody but its owner begins or ends what a queue executes: in what the owner sees, what began and what ended grows by its own
@@ -161,4 +171,18 @@ pub fn own_values_stay<V>()
 pub fn owner_values_stay<V>()
     ensures same { (n : ℕ) (old new : KnownWith V) → old.known.number ≡ owner_seat → Sees [] n old.known new.known → IsShut old.known.seen
         → Learnt old new → new.brought ≡ old.brought }
+{}
+
+/// What the queueings of a seat brought is as much as was accepted of it, so nothing where nothing was accepted.
+pub fn own_values_match<V>()
+    ensures as_many { (s : ℕ) (h : List Event) (values : List (Option V)) → length (own_brought s h values) ≡ length (accepted (own s h)) }
+    ensures none { (s : ℕ) (h : List Event) (values : List (Option V)) → accepted (own s h) ≡ [] → own_brought s h values ≡ [] }
+{}
+
+/// The values that were brought to a queue are, together, those that its owner and each of its senders brought: so says any sum over
+/// them.
+pub fn values_add_up<V>()
+    ensures sums { (f : V → ℕ) (layout : Layout) (h : List Event) (values : List (Option V)) → IsLegal layout h
+        → length values ≡ length (accepted h)
+        → sum_by f (values_among values) ≡ over_seats layout (λ s. sum_by f (values_among (own_brought s h values))) }
 {}

@@ -13,9 +13,9 @@ pub use owner::Owner;
 pub use pair::Pair;
 pub use sender::Sender;
 pub use wq_calls::{
-    BuildError, Done, OwnerCounts, SenderCounts, Spins, chained_is_accepted, closed_is_closed,
-    counts_stay, executions_grow, held_stays, no_longer_held, own_events_grow, own_events_stay,
-    own_is_accepted, owner_stays, pending_was_pending, posted_is_accepted, queued_is_accepted,
-    unheld_stays,
+    BuildError, Done, OwnerCounts, SenderCounts, Spins, accepted_adds_up, chained_is_accepted,
+    closed_is_closed, counts_stay, executions_grow, held_stays, no_longer_held, own_events_grow,
+    own_events_stay, own_is_accepted, owner_stays, pending_was_pending, posted_is_accepted,
+    queued_is_accepted, unheld_stays,
 };
 pub use wq_words::{Answer, Posted};

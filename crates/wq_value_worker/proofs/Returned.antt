@@ -2,8 +2,10 @@
 use Rattle.wq_value_worker.proofs.Common.{◌≡◌, inl, inr, ℕ, ◌<◌, ◌≤◌, cond, Bool, List, [], ◌∷◌, ◌++◌, length, Option, Some, None, refl, sym, ap, ◌∙◌}
 use Rattle.wq_value_worker.proofs.Common.{subst, append_assoc, arith, append-nil, cases_lt, Layout, items_among, GivesBack, MayLeave, numbers_in, pairs_of}
 use Rattle.std.proofs.Common.{◌⊎◌, suc, lt-ltb, le-ltb}
-use Rattle.wq_words.specs.Valued.{AreBrought, Carries}
-use Rattle.wq_value_worker.specs.Returned.{GivenBack, none, one}
+use Rattle.std.proofs.lemmas.List.Sums.{sum_by-cons}
+use Rattle.std.specs.Prelude.{map, sum_by}
+use Rattle.wq_words.specs.Valued.{AreBrought, Carries, values_among}
+use Rattle.wq_value_worker.specs.Returned.{GivenBack, none, one, value_of_pair}
 
 module _ {V W : Type 0} (takes : W → ℕ → V → W → Type 0) where
   pub given_on : (ps qs : List (ℕ × V)) (a b c : W) → GivenBack takes ps a b → GivenBack takes qs b c → GivenBack takes (ps ++ qs) a c
@@ -74,3 +76,19 @@ module _ {V : Type 0} where
       let high : layout.items ≤ k = with_other layout.items k (are.carries 0 k None refl refl) in
       numbers_of_pairs layout ks ys (brought_behind layout.items k ks None ys are) ∙
       ap (λ (b : Bool). cond b (k ∷ items_among layout ks) (items_among layout ks)) (sym (le-ltb k layout.items high))
+
+pub pairs_values : {V : Type 0} (ks : List ℕ) (ys : List (Option V)) → length ys ≡ length ks → map value_of_pair (pairs_of ks ys) ≡ values_among ys
+pairs_values [] [] many = refl
+pairs_values [] (y ∷ ys) many = absurd (omega arith)
+pairs_values (k ∷ ks) [] many = absurd (omega arith)
+pairs_values (k ∷ ks) (Some v ∷ ys) many = ap (λ vs. v ∷ vs) (pairs_values ks ys (omega (arith, many)))
+pairs_values (k ∷ ks) (None ∷ ys) many = pairs_values ks ys (omega (arith, many))
+
+pub pairs_sum : {V : Type 0} (f : V → ℕ) (ks : List ℕ) (ys : List (Option V)) → length ys ≡ length ks
+    → sum_by (λ p. f p.1) (pairs_of ks ys) ≡ sum_by f (values_among ys)
+pairs_sum f [] [] many = refl
+pairs_sum f [] (y ∷ ys) many = absurd (omega arith)
+pairs_sum f (k ∷ ks) [] many = absurd (omega arith)
+pairs_sum f (k ∷ ks) (Some v ∷ ys) many =
+    omega (arith, sum_by-cons (λ p. f p.1) (k, v) (pairs_of ks ys), sum_by-cons f v (values_among ys), pairs_sum f ks ys (omega (arith, many)))
+pairs_sum f (k ∷ ks) (None ∷ ys) many = pairs_sum f ks ys (omega (arith, many))

@@ -14,6 +14,9 @@ module _ {V W : Type 0} (takes : W → ℕ → V → W → Type 0) where
 abbrev pub number_of_pair : {V : Type 0} → ℕ × V → ℕ
 number_of_pair p = p.0
 
+abbrev pub value_of_pair : {V : Type 0} → ℕ × V → V
+value_of_pair p = p.1
+
 abbrev pub numbers_in : {V : Type 0} → List (ℕ × V) → List ℕ
 numbers_in ps = map number_of_pair ps
 

@@ -9,7 +9,7 @@ mod value_steps;
 mod value_work;
 mod value_worker;
 
-pub use laws::steps_go_on;
+pub use laws::{pairs_have_values, steps_go_on};
 pub use value_book::ValueBook;
 pub use value_follow::ValueFollow;
 pub use value_work::ValueWork;

@@ -34,3 +34,4 @@ pub mod Fresh
 pub mod Alone
 pub mod TwoPlaces
 pub mod AtPlaces
+pub mod SeatBySeat

@@ -1,5 +1,7 @@
 -- Whose an event is, and what a seat sees come new.
-use Rattle.std.specs.Prelude.{◌≡◌, ℕ, ◌≤◌, not, ◌==◌, Bool, ◌||◌, List, ◌++◌, length, filter}
+use Rattle.std.specs.Prelude.{◌≡◌, ℕ, ◌+◌, ◌≤◌, not, ◌==◌, Bool, ◌||◌, List, ◌++◌, length, filter, sum_by}
+use Rattle.std.specs.List.{range_with_len}
+use Rattle.wq_words.specs.declared.layout.Layout.{Layout}
 use Rattle.wq_words.specs.declared.event.Event.{Event}
 use Rattle.wq_words.specs.declared.event.Event.TheVariants.{Hold, Busy, Push, Back, Take, Close, Drain, Resume, Begin, End, Chain, ChainBusy, Rest}
 
@@ -29,6 +31,10 @@ own c h = filter (λ e. seat_of e == c) h
 
 abbrev pub others : ℕ → List Event → List Event
 others c h = filter (λ e. not (seat_of e == c)) h
+
+-- what the seats of a queue have, added up: the owner's, and each sender's
+abbrev pub over_seats : Layout → (ℕ → ℕ) → ℕ
+over_seats layout part = part owner_seat + sum_by part (range_with_len 0 layout.senders)
 
 -- it is of the seat of sender s, or of the owner's
 abbrev pub is_ours : ℕ → Event → Bool

@@ -32,6 +32,10 @@ brought h = filter_map brought_by h
 abbrev pub handed : {V : Type 0} → List (Valued V) → List (Option V)
 handed h = filter_map handed_by h
 
+-- the values among what was brought, without the places that brought none
+abbrev pub values_among : {V : Type 0} → List (Option V) → List V
+values_among ys = filter_map (λ y. y) ys
+
 -- an item brings a value, and no other number does
 abbrev pub Carries : {V : Type 0} → ℕ → ℕ → Option V → Type 0
 Carries {V} items k y = (k < items → (v : V) × (y ≡ Some v)) × (items ≤ k → y ≡ None)
