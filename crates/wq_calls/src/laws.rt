@@ -1,6 +1,6 @@
 //! What follows from what the calls of a queue say, in the form in which a caller needs it. These functions compute nothing:
 //! each one's contract is a law, which a caller has in hand after the call.
-ghost use Rattle.std.specs.Prelude.{◌≡◌, ◌≢◌, ℕ, Bool, false, List, [], ◌∷◌, ◌++◌, length, Option, sum_by};
+ghost use Rattle.std.specs.Prelude.{◌≡◌, ◌≢◌, ◌⊎◌, ℕ, ◌<◌, Bool, false, List, [], ◌∷◌, ◌++◌, length, Option, sum_by};
 ghost use Rattle.std.specs.List.{Contains};
 ghost use Rattle.wq_words.specs.declared.answer.Answer.{Answer};
 ghost use Rattle.wq_words.specs.declared.answer.Answer.TheVariants as answer;
@@ -45,9 +45,11 @@ pub fn own_events_grow()
     ensures grows { (n : ℕ) (xs : List Event) (old new : Known) → Sees xs n old new → own old.number new.seen ≡ own old.number old.seen ++ xs }
 {}
 
-/// What was accepted of a seat was accepted.
+/// What was accepted of a seat was accepted, and what was accepted was accepted of one of the senders or of the owner.
 pub fn own_is_accepted()
     ensures among { (s k : ℕ) (h : List Event) → Contains (accepted (own s h)) k → Contains (accepted h) k }
+    ensures of_some { (layout : Layout) (h : List Event) (k : ℕ) → IsLegal layout h → Contains (accepted h) k
+        → (s : ℕ) × ((s < layout.senders) ⊎ (s ≡ owner_seat)) × Contains (accepted (own s h)) k }
 {}
 
 /// What was accepted of a queue is, together, what was accepted of its owner and of each of its senders: so says any sum over it.
