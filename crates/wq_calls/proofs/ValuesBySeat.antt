@@ -54,7 +54,7 @@ module _ {V : Type 0} (f : V → ℕ) where
         arith,
         t.0,
         seat_gets (λ s. whole (own_row s h (left_of (accepted_by e) ys))) (λ s. whole (own_row s (e ∷ h) ys)) (seat_of e)
-          (place_adds (value_if (accepted_by e) (first_in ys))) (one_more e h ys) layout held.0,
+            (place_adds (value_if (accepted_by e) (first_in ys))) (one_more e h ys) layout held.0,
         rows_have layout h (left_of (accepted_by e) ys) held.1 t.1,
       )
 

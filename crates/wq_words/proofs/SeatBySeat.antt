@@ -45,14 +45,14 @@ module _ (old new : ℕ → ℕ) (q w : ℕ) (more : (s : ℕ) → new s ≡ con
   among : (a n : ℕ) → a ≤ q → q < a + n → sum_by new (range_with_len a n) ≡ w + sum_by old (range_with_len a n)
   among a zero low high = absurd (omega arith)
   among a (suc n) low high = elim (cases_lt a q) [
-      | inl later ↦ omega (
-        arith,
-        sum_by-cons new a (range_with_len (a + 1) n),
-        sum_by-cons old a (range_with_len (a + 1) n),
-        other a (λ is. absurd (omega (arith, is, later))),
-        among (a + 1) n (omega arith) (omega arith),
-      )
-      | inr here ↦ let is : q ≡ a = omega arith in
+    | inl later ↦ omega (
+      arith,
+      sum_by-cons new a (range_with_len (a + 1) n),
+      sum_by-cons old a (range_with_len (a + 1) n),
+      other a (λ is. absurd (omega (arith, is, later))),
+      among (a + 1) n (omega arith) (omega arith),
+    )
+    | inr here ↦ let is : q ≡ a = omega arith in
         omega (
           arith,
           sum_by-cons new a (range_with_len (a + 1) n),
@@ -62,7 +62,7 @@ module _ (old new : ℕ → ℕ) (q w : ℕ) (more : (s : ℕ) → new s ≡ con
           its,
           apart (a + 1) n (λ s low high same. absurd (omega (arith, is, low, same))),
         )
-    ]
+  ]
 
   pub seat_gets : (layout : Layout) → IsSeat layout q → over_seats layout new ≡ w + over_seats layout old
   seat_gets layout (inl sender) =
@@ -113,7 +113,7 @@ some_sender part a zero some = absurd (omega arith)
 some_sender part a (suc n) some = elim (cases_lt 0 (part a)) [
   | inl has ↦ (a, omega arith, has)
   | inr none ↦ let it = some_sender part (a + 1) n (omega (arith, some, none, sum_by-cons part a (range_with_len (a + 1) n))) in
-    (it.0, omega (arith, it.1), it.2)
+      (it.0, omega (arith, it.1), it.2)
 ]
 
 -- where all together have some, one of them has
