@@ -2,10 +2,12 @@
 //! writes it: it stands on public contracts alone.
 #![tactic(auto)]
 
+mod flushing;
 mod pool;
 mod queueing;
 mod work;
 
+pub use flushing::flush;
 pub use pool::{Ended, Unended, run};
 pub use queueing::Told;
 pub use work::RunList;

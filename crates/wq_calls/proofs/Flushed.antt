@@ -1,7 +1,7 @@
 -- What a barrier that is not pending says of what was accepted before it.
 use Rattle.wq_calls.proofs.Common.{◌≡◌, ℕ, ◌≤◌, Bool, false, cond, ◌==◌, List, [], ◌∷◌, ◌++◌, length, refl, ap, ◌∙◌, arith, eq-eqb, length-append}
 use Rattle.wq_calls.proofs.Common.{count_by, sum_by-append, sum_by-cons, IsPrefix, Layout, Event, Push, accepted, begun, ended, pending, IsLegal}
-use Rattle.wq_calls.proofs.Common.{accepted-append, in_order, kept}
+use Rattle.wq_calls.proofs.Common.{accepted-append, append_assoc, sym, in_order, kept}
 use Rattle.std.proofs.lemmas.Bool.Decides.{nat_tests}
 use Rattle.wq_words.specs.History.{sets_pending, clears_pending}
 use Rattle.wq_words.specs.Keeper.{Keeper, keeper}
@@ -9,7 +9,7 @@ use Rattle.wq_words.proofs.Keepers.{pending_bit, queue_bit, home_from_bit}
 use Rattle.wq_calls.specs.Answers.{HasFlushed, IsPushed}
 use Rattle.wq_calls.specs.Known.{Known, Sees}
 use Rattle.wq_words.specs.Seen.{own}
-use Rattle.wq_words.proofs.Prefixes.{prefix_on}
+use Rattle.wq_words.proofs.Prefixes.{prefix_on, prefix_self}
 use Rattle.wq_calls.proofs.Common.{◌<◌, sym, Hold, own-append}
 
 -- an element among others is counted
@@ -72,11 +72,16 @@ seen_before c (x ∷ u) new (y ∷ before) after e is none some =
     let more = seen_before c u new before after e tails none some in (more.0, λ i. heads i ∷ more.1 i)
 
 -- once a barrier has run that a call queued, all has ended that had been accepted before the call
-pub flushed_all : (k n : ℕ) (first wakes : Bool) (old new : Known) → Sees (Hold old.number k ∷ Push old.number k ∷ []) n old new
-    → IsPushed old.number k first wakes new.seen → HasFlushed k new.seen → IsPrefix (accepted old.seen) (ended new.seen)
-flushed_all k n first wakes old new sees pushed flush =
+pub flushed_later : (k n : ℕ) (first wakes : Bool) (old mid : Known) (h : List Event) → Sees (Hold old.number k ∷ Push old.number k ∷ []) n old mid
+    → IsPushed old.number k first wakes mid.seen → IsPrefix mid.seen h → HasFlushed k h → IsPrefix (accepted old.seen) (ended h)
+flushed_later k n first wakes old mid h sees pushed more flush =
     let g = sees.grows in let s = old.number in
     let front = seen_before s old.seen g.new pushed.before pushed.after (Push s k) (sym g.is ∙ pushed.is) pushed.last
-    (omega (arith, ap (λ (h : List Event). length h) g.mine)) in
-    prefix_on (accepted old.seen) (accepted pushed.before) (ended new.seen)
-    (accepted front.0, sym (accepted-append old.seen front.0) ∙ ap accepted front.1) (flush s pushed.before pushed.after pushed.is)
+    (omega (arith, ap (λ (z : List Event). length z) g.mine)) in
+    prefix_on (accepted old.seen) (accepted pushed.before) (ended h) (accepted front.0, sym (accepted-append old.seen front.0) ∙ ap accepted front.1)
+    (flush s pushed.before (pushed.after ++ more.0) (sym more.1 ∙ (ap (λ (z : List Event). z ++ more.0) pushed.is ∙
+    append_assoc pushed.before (Push s k ∷ pushed.after) more.0)))
+
+pub flushed_all : (k n : ℕ) (first wakes : Bool) (old new : Known) → Sees (Hold old.number k ∷ Push old.number k ∷ []) n old new
+    → IsPushed old.number k first wakes new.seen → HasFlushed k new.seen → IsPrefix (accepted old.seen) (ended new.seen)
+flushed_all k n first wakes old new sees pushed = flushed_later k n first wakes old new new.seen sees pushed (prefix_self new.seen)

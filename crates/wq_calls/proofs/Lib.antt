@@ -51,3 +51,5 @@ pub mod ValueJoined
 pub mod ValueBooks
 pub mod HeldAfter
 pub mod ValuesBySeat
+pub mod GoingOn
+pub mod OwnCounts

@@ -1,7 +1,8 @@
 //! What follows from what the calls of a queue say, in the form in which a caller needs it. These functions compute nothing:
 //! each one's contract is a law, which a caller has in hand after the call.
-ghost use Rattle.std.specs.Prelude.{◌≡◌, ◌≢◌, ◌⊎◌, ℕ, ◌<◌, Bool, false, List, [], ◌∷◌, ◌++◌, length, Option, sum_by};
+ghost use Rattle.std.specs.Prelude.{◌≡◌, ◌≢◌, ◌⊎◌, ℕ, ◌+◌, ◌<◌, Bool, false, List, [], ◌∷◌, ◌++◌, length, Option, sum_by};
 ghost use Rattle.std.specs.List.{Contains};
+ghost use mathlib.Core.List.{IsPrefix};
 ghost use Rattle.wq_words.specs.declared.answer.Answer.{Answer};
 ghost use Rattle.wq_words.specs.declared.answer.Answer.TheVariants as answer;
 ghost use Rattle.wq_words.specs.declared.answer.Posted.{Posted};
@@ -15,7 +16,7 @@ ghost use Rattle.wq_words.specs.Legal.{IsLegal};
 ghost use Rattle.wq_words.specs.Seen.{own, owner_seat, over_seats};
 ghost use Rattle.wq_words.specs.Valued.{values_among};
 ghost use Rattle.wq_calls.specs.Known.{Known, Sees};
-ghost use Rattle.wq_calls.specs.Answers.{TestsAndSets, Answers, Posts, Chains};
+ghost use Rattle.wq_calls.specs.Answers.{TestsAndSets, Answers, Posts, Chains, HasFlushed};
 ghost use Rattle.wq_calls.specs.Counts.{sender_counts, owner_counts};
 ghost use Rattle.wq_calls.specs.Laws.{queued_number, pushed_number, WasPending, IsStillEnd, IsStillOwned};
 ghost use Rattle.wq_calls.specs.declared.value_answer.ValueAnswer.{ValueAnswer};
@@ -38,6 +39,35 @@ pub fn posted_is_accepted()
 pub fn chained_is_accepted()
     ensures grows { (k : ℕ) (a : Answer) (old new : Known) → Chains k a old new
         → accepted (own old.number new.seen) ≡ accepted (own old.number old.seen) ++ queued_number k a }
+{}
+
+/// What a seat has seen goes on: it goes on to itself (`none`), and over one call after another (`on`), so that a loop of calls without
+/// an event of the seat's own has this as its invariant; and what it had seen before a call begins what it has seen after it.
+pub fn seen_goes_on()
+    ensures none { (old : Known) → IsLegal old.layout old.seen → Sees [] 0 old old }
+    ensures on { (xs ys : List Event) (n m : ℕ) (old mid new : Known) → Sees xs n old mid → Sees ys m mid new → Sees (xs ++ ys) (n + m) old new }
+    ensures begins { (n : ℕ) (xs : List Event) (old new : Known) → Sees xs n old new → IsPrefix old.seen new.seen }
+    ensures queued { (k tries : ℕ) (a : Answer) (old new : Known) → Answers k tries a old new → IsPrefix old.seen new.seen }
+    ensures posted { (k tries : ℕ) (a : Posted) (old new : Known) → Posts k tries a old new → IsPrefix old.seen new.seen }
+{}
+
+/// A flush in two halves: once it is seen that a barrier has run, however much later than its queueing, all has ended that had been
+/// accepted before that queueing.
+pub fn flushed_in_halves()
+    ensures ended { (k tries : ℕ) (first wakes : Bool) (old mid : Known) (h : List Event) → Answers k tries (answer.Queued first wakes) old mid
+        → IsPrefix mid.seen h → HasFlushed k h → IsPrefix (accepted old.seen) (ended h) }
+{}
+
+/// A seat that made no event from one history to a later one made none up to any history between the two.
+pub fn own_events_between()
+    ensures same { (s : ℕ) (h between later : List Event) → IsPrefix h between → IsPrefix between later → own s later ≡ own s h
+        → own s between ≡ own s h }
+{}
+
+/// A seat counts its own events alone, whatever else happened.
+pub fn counts_are_own()
+    ensures sender { (s : ℕ) (h : List Event) → sender_counts s h ≡ sender_counts s (own s h) }
+    ensures owner { (h : List Event) → owner_counts h ≡ owner_counts (own owner_seat h) }
 {}
 
 /// A seat's own events are, after a call, those that it had made and behind them those that the call says.

@@ -19,10 +19,11 @@ pub use answer::Done;
 pub use build_error::BuildError;
 pub use counts::{OwnerCounts, SenderCounts};
 pub use laws::{
-    accepted_adds_up, chained_brings, chained_is_accepted, closed_is_closed, counts_stay,
-    executions_grow, held_stays, no_longer_held, own_events_grow, own_events_stay, own_is_accepted,
-    own_values_match, own_values_stay, owner_stays, owner_values_stay, pending_was_pending,
-    posted_is_accepted, queued_brings, queued_brings_nothing, queued_is_accepted, unheld_stays,
+    accepted_adds_up, chained_brings, chained_is_accepted, closed_is_closed, counts_are_own,
+    counts_stay, executions_grow, flushed_in_halves, held_stays, no_longer_held,
+    own_events_between, own_events_grow, own_events_stay, own_is_accepted, own_values_match,
+    own_values_stay, owner_stays, owner_values_stay, pending_was_pending, posted_is_accepted,
+    queued_brings, queued_brings_nothing, queued_is_accepted, seen_goes_on, unheld_stays,
     values_add_up,
 };
 pub use owner_seat::{OwnerSeat, Phase};

@@ -7,7 +7,7 @@ use Rattle.wq_delay.proofs.Common.{TakesOff, IsOut, is_back, MayStay, PostsDue}
 use Rattle.std.specs.Prelude.{◌⊎◌}
 use Rattle.wq_live.specs.Answers.{HasMetDrain}
 use Rattle.wq_delay.specs.Delay.{none, contended, draining}
-use Rattle.wq_delay.proofs.Going.{sees_on, sees_none}
+use Rattle.wq_calls.proofs.GoingOn.{sees_on, sees_none}
 use Rattle.wq_words.specs.declared.event.Why.TheVariants as why
 
 all_zip_push : {A B : Type 0} (R : A → B → Type 0) (xs : List A) (ys : List B) (x : A) (y : B) → AllZip R xs ys → R x y

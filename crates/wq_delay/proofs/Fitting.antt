@@ -1,5 +1,5 @@
 -- How much stands in a row.
-use Rattle.wq_delay.proofs.Common.{◌≡◌, ℕ, ◌+◌, ◌<◌, ◌≤◌, Bool, true, false, ◌||◌, eqb, List, [], ◌∷◌, ◌++◌, map, length, nat_lt, ◌==◌}
+use Rattle.wq_delay.proofs.Common.{◌≡◌, ℕ, ◌<◌, ◌≤◌, Bool, true, false, ◌||◌, eqb, List, [], ◌∷◌, ◌++◌, map, length, nat_lt, ◌==◌}
 use Rattle.wq_delay.proofs.Common.{Some, None, All, Option, sym, refl, ap, ◌∙◌, subst, arith, length-append, eqb-true, nat_tests, get_or_past}
 use Rattle.wq_delay.proofs.Common.{length-map, All-head, All-tail, length-le_from_distinct_below, IsDistinct, Entry, on_table, items}
 use Rattle.wq_delay.proofs.Common.{DuePlace, DueItem, place_in, AreOnTable, entry_at, entry_of, times, place_at, SaysPlace}

@@ -1,39 +1,11 @@
 -- What goes off the table an item at a time.
-use Rattle.wq_words.specs.Seen.{seat_of, own, others, Grows}
 use Rattle.std.proofs.lemmas.List.Sorted.{IsPermutation-refl, IsPermutation-trans, IsPermutation-cons, IsPermutation-middle, IsPermutation-append_right}
-use Rattle.wq_delay.proofs.Common.{◌≡◌, ℕ, ◌+◌, ◌<◌, ◌≤◌, Bool, true, false, cond, not, ◌&&◌, ◌||◌, ◌≢◌, List, [], ◌∷◌, ◌++◌, map, length, ◌==◌, IsPermutation}
-use Rattle.wq_delay.proofs.Common.{sym, refl, ap, ◌∙◌, subst, append_assoc, arith, length-append, eqb-true, nat_tests, append-nil, filter-append, Event, Back}
-use Rattle.wq_delay.proofs.Common.{Holds, Entry, without, IsOrdered, on_table, IsLegal, first_on, without_off, on_table-without, Known, Sees, GivesAllBack}
+use Rattle.wq_delay.proofs.Common.{◌≡◌, ℕ, ◌+◌, ◌<◌, ◌≤◌, Bool, true, false, cond, not, ◌&&◌, ◌||◌, ◌≢◌, List, [], ◌∷◌, ◌++◌, map, ◌==◌, IsPermutation}
+use Rattle.wq_delay.proofs.Common.{sym, refl, ap, ◌∙◌, subst, append_assoc, arith, eqb-true, nat_tests, append-nil, Event, Back}
+use Rattle.wq_delay.proofs.Common.{Holds, Entry, without, IsOrdered, on_table, first_on, without_off, on_table-without, Known, Sees, GivesAllBack}
+use Rattle.wq_calls.proofs.GoingOn.{sees_on, sees_none}
 use Rattle.wq_delay.proofs.Sound.{state, FitsSize, sound_leaves, stops_back}
 use Rattle.wq_words.specs.declared.event.Why.TheVariants as why
-
-grows_on : (c : ℕ) (xs ys : List Event) (n m : ℕ) (u v w : List Event) → Grows c xs n u v → Grows c ys m v w → Grows c (xs ++ ys) (n + m) u w
-grows_on c xs ys n m u v w a b = record {
-  new = a.new ++ b.new;
-  is = b.is ∙ (ap (λ (z : List Event). z ++ b.new) a.is ∙ append_assoc u a.new b.new);
-  mine = filter-append (λ e. seat_of e == c) a.new b.new ∙ (ap (λ (z : List Event). z ++ own c b.new) a.mine ∙ ap (λ (z : List Event). xs ++ z) b.mine);
-  theirs = let e = ap (length {A = Event}) (filter-append (λ e. not (seat_of e == c)) a.new b.new) in
-      omega (arith, a.theirs, b.theirs, e, length-append (others c a.new) (others c b.new));
-}
-
-pub sees_on : (xs ys : List Event) (n m : ℕ) (a b c : Known) → Sees xs n a b → Sees ys m b c → Sees (xs ++ ys) (n + m) a c
-sees_on xs ys n m a b c p q = record {
-  same = record {
-    queue_is = q.same.queue_is ∙ p.same.queue_is;
-    layout_is = q.same.layout_is ∙ p.same.layout_is;
-    number_is =
-        q.same.number_is ∙ p.same.number_is;
-  };
-  grows = grows_on a.number xs ys n m a.seen b.seen c.seen p.grows (subst (λ (z : ℕ). Grows z ys m b.seen c.seen) p.same.number_is q.grows);
-  legal = q.legal;
-}
-
-pub sees_none : (a : Known) → IsLegal a.layout a.seen → Sees [] 0 a a
-sees_none a legal = record {
-  same = record { queue_is = refl; layout_is = refl; number_is = refl };
-  grows = record { new = []; is = sym (append-nil a.seen); mine = refl; theirs = omega arith };
-  legal = legal;
-}
 
 -- what was given back, and what is left
 abbrev pub backs : ℕ → List Entry → List Event

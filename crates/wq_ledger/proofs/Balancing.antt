@@ -87,6 +87,7 @@ balances owner own ledgers met totals parts made sums whole owner_whole is =
       chained_is = chained;
       executed_is = executed;
       balance = omega (arith, queued, chained, executed, accepted-count h, parts.complete.1);
+      queued_sum = omega (arith, ap (λ (t : Totals). t.queued) is, sums.queued_is);
       pending_is = omega (arith, ap (λ (t : Totals). t.pending) is, sums.pending_is, busy);
       closed_is = omega (arith, ap (λ (t : Totals). t.closed) is, sums.closed_is);
       draining_is = omega (arith, ap (λ (t : Totals). t.draining) is, sums.draining_is);

@@ -62,8 +62,8 @@ pub record SumsMet (ledgers : List LedgerState) (seat n : ℕ) (met : Totals) : 
 abbrev pub FaultsBelow : List LedgerState → ℕ → ℕ → Unbalanced → Type 0
 FaultsBelow ledgers seat n fault = (s : ℕ) × (s < n) × (s ≢ seat) × HaveOne ledgers seat s × IsFault ledgers s fault
 
--- Each sender but the worker's has one ledger, and no count is saturated. Queued and chained are all that was accepted, as
--- many as were executed; the other counts are what each sender had counted as it met the book, the worker's as the book was made.
+-- Each sender but the worker's has one ledger, and no count is saturated. Each count is the sum of what each sender had counted as
+-- it met the book, the worker's as the book was made. Queued and chained are all that was accepted, as many as were executed.
 pub record Balances (book : BookState) (ledgers : List LedgerState) (totals : Totals) : Type 0 where
   pub have_one : HaveOne ledgers book.own.number book.layout.senders
   pub own_made : IsLedgerOf book.seen book.own
@@ -73,6 +73,7 @@ pub record Balances (book : BookState) (ledgers : List LedgerState) (totals : To
   pub chained_is : totals.chained ≡ count_by is_chain book.seen
   pub executed_is : totals.executed ≡ length (ended book.seen)
   pub balance : totals.queued + totals.chained ≡ totals.executed
+  pub queued_sum : totals.queued ≡ met_total (λ c. c.queued) book.own.number book.layout.senders ledgers + book.own.counts.queued
   pub pending_is : totals.pending ≡ met_total (λ c. c.pending) book.own.number book.layout.senders ledgers
       + (book.own.counts.pending + count_by is_chain_busy book.seen)
   pub closed_is : totals.closed ≡ met_total (λ c. c.closed) book.own.number book.layout.senders ledgers + book.own.counts.closed

@@ -1,5 +1,6 @@
 //! What the senders of a queue that has run to the end have counted.
 ghost use Rattle.std.specs.Prelude.{◌≡◌, [], All, MatchResult};
+ghost use mathlib.Core.List.{IsPrefix};
 ghost use Rattle.wq_words.specs.History.{accepted, begun, ended};
 ghost use Rattle.wq_words.specs.Legal.{IsLegal, IsComplete};
 ghost use Rattle.wq_words.specs.Headline.{KeepsHeadline};
@@ -120,6 +121,8 @@ impl Book {
         ensures layout { sender.old.layout ≡ self.old.layout }
         ensures both { sender.new.seen ≡ self.new.seen }
         ensures last { IsStillEnd self.old.seen self.new.seen }
+        ensures begins { IsPrefix sender.old.seen self.new.seen }
+        ensures in_book { own sender.old.number self.new.seen ≡ own sender.old.number sender.old.seen }
     {
         sender.meet_owner(&mut self.owner);
         Ledger::of(sender.number(), sender.counts())

@@ -4,7 +4,7 @@ use Rattle.wq_script.proofs.Common.{Busy, pending, legal_next, Armed, armed_of, 
 use Rattle.wq_script.proofs.Common.{queue_answer, queues_now, arm_events, arm_table, arm_answer, Seats, Publishes, Seated, GoesWithTable}
 use Rattle.wq_words.specs.declared.answer.Answer.TheVariants as queueing
 use Rattle.wq_words.specs.declared.answer.Armed.TheVariants as armed
-use Rattle.wq_delay.proofs.Going.{sees_none}
+use Rattle.wq_calls.proofs.GoingOn.{sees_none}
 use Rattle.wq_meaning.proofs.Armings.{now_at_once, now_pending, now_never, arm_far, arm_now, arm_later}
 use Rattle.wq_script.proofs.Seated.{Acts, delay_acts}
 use Rattle.wq_script.proofs.Asked.{asked}

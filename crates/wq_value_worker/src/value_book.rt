@@ -1,5 +1,6 @@
 //! What the senders of a queue that has run to the end have counted, where its items bring values.
 ghost use Rattle.std.specs.Prelude.{◌≡◌, ℕ, [], All, length, take, MatchResult};
+ghost use mathlib.Core.List.{IsPrefix};
 ghost use Rattle.wq_words.specs.History.{accepted, begun, ended};
 ghost use Rattle.wq_words.specs.Legal.{IsLegal, IsComplete};
 ghost use Rattle.wq_words.specs.Headline.{KeepsHeadline};
@@ -90,6 +91,8 @@ impl<V: Drop> ValueBook<V> {
         ensures layout { sender.old.known.layout ≡ self.old.book.layout }
         ensures both { sender.new.known.seen ≡ self.new.book.seen }
         ensures last { IsStillEnd self.old.book.seen self.new.book.seen }
+        ensures begins { IsPrefix sender.old.known.seen self.new.book.seen }
+        ensures in_book { own sender.old.known.number self.new.book.seen ≡ own sender.old.known.number sender.old.known.seen }
         ensures brought { self.new.brought ≡ self.old.brought }
         ensures of_each { (s : ℕ) → own_brought s self.new.book.seen self.new.brought ≡ own_brought s self.old.book.seen self.old.brought }
         ensures both_brought { sender.new.brought ≡ self.new.brought }

@@ -3,6 +3,7 @@ use crate::looks::{LOOKS, finds};
 use crate::pool::team::{
     Guest, Logging, empty, finish_all, finish_unfinished, new_pool_with_worker, run_beside,
 };
+use example_pool::flush;
 use std::alloc::Global;
 use std::process::Abort;
 use std::sync::Wait;
@@ -51,15 +52,18 @@ pub(crate) fn queue_with_barrier<R: Abort + Wait>(
     guest.wake(rt, queue, answer);
 }
 
-/// Queues the first item and a barrier, which are both served.
+/// Queues the first item and flushes, so that it is served.
 pub(crate) fn serve_again<R: Abort + Wait>(
     rt: &R,
     guest: &mut Guest<'_>,
     sender: &mut Sender,
     queue: u32,
 ) {
-    queue_with_barrier(rt, guest, sender, queue, 0);
-    assert!(rt; is_flushed(rt, sender));
+    assert!(rt; 0 < sender.layout().items);
+    let answer = sender.queue(rt, 0);
+    guest.wake(rt, queue, answer);
+    assert!(rt; 0 < sender.layout().barriers);
+    assert!(rt; flush(rt, guest.pool, &mut guest.caller, queue, sender, 0, LOOKS));
 }
 
 /// Both queues are served over and over, and stopped.

@@ -1,3 +1,8 @@
+use Rattle.std.specs.Prelude.{List}
+use mathlib.Core.List.{IsPrefix}
+use Rattle.wq_words.specs.declared.event.Event.{Event}
+use Rattle.wq_words.specs.Seen.{own}
+use Rattle.wq_words.proofs.Seen.{grows_begins}
 use Rattle.wq_values.specs.Laws.{IsStillEnd}
 use Rattle.wq_values.specs.OwnBrought.{own_brought}
 use Rattle.wq_value_worker.specs.ValueBook.{ValueBookState}
@@ -33,6 +38,8 @@ returns g c =
       layout = sym m.layout ∙ ap (λ (z : ValueBookState g.row.V.Denot). z.book.layout) is;
       both = sym m.both;
       last = subst (λ (z : ValueBookState g.row.V.Denot). IsStillEnd z.book.seen q.known.seen) is (m.last done);
+      begins = subst (λ (h : List Event). IsPrefix c.args.sender.now.known.seen h) (sym m.both) (grows_begins _ _ _ _ _ m.this.grows);
+      in_book = ap (λ (h : List Event). own c.args.sender.now.known.number h) m.both ∙ m.own.0;
       brought = m.end done ∙ ap (λ (z : ValueBookState g.row.V.Denot). z.brought) is;
       of_each = λ s. brought_still s o.known.number 0 o.known.seen q.known.seen o.brought q.brought m.that.grows (m.last done) m.theirs.more
           m.theirs.was_whole ∙ ap (λ (z : ValueBookState g.row.V.Denot). own_brought s z.book.seen z.brought) is;
